@@ -7,7 +7,7 @@ use Rattle.std.proofs.lemmas.Bool.{and_from}
 use Rattle.server_orders.specs.declared.words.ServerOrder.{ServerOrder}
 use Rattle.server_orders.specs.ServerLine.{IsNumberIfGiven}
 use Rattle.railway.specs.Railway.{RailwayState}
-use Rattle.programming_track.specs.declared.programming_track.ProgrammingTrack.{ProgrammingTrack}
+use Rattle.programming_track.specs.Bench.{BenchState}
 use Rattle.roster.specs.Entry.{Entry}
 use Rattle.roster.specs.Decoders.{entries_of, names_of, specs_of}
 use Rattle.bus_server.specs.ServerState.{initial_state}
@@ -15,9 +15,9 @@ use Rattle.bus_server.specs.declared.pace.Pace.{Pace}
 use Rattle.bus_server.specs.Losses.{IsSeeded}
 use Rattle.bus_server.specs.Pace.{is_pace}
 use Rattle.bus_server.specs.Running.{IsRun}
-use Rattle.lbserver.specs.Execution.{ServesOrder, clients_of, entries_in, pace_of, unlogged}
+use Rattle.lbserver.specs.Execution.{ServesOrder, clients_of, entries_in, moment, pace_of, unlogged}
 
-pub same_order : (a b : ServerOrder) (entries : List Entry) (railway : Option RailwayState) (programming : Option ProgrammingTrack) → pace_of a.turns a.rate ≡ pace_of b.turns b.rate → a.lose ≡ b.lose → a.seed ≡ b.seed → a.clients ≡ b.clients → ServesOrder a entries railway programming → ServesOrder b entries railway programming
+pub same_order : (a b : ServerOrder) (entries : List Entry) (railway : Option RailwayState) (programming : Option BenchState) → pace_of a.turns a.rate ≡ pace_of b.turns b.rate → a.lose ≡ b.lose → a.seed ≡ b.seed → a.clients ≡ b.clients → ServesOrder a entries railway programming → ServesOrder b entries railway programming
 same_order a b entries railway programming pace lose seed clients served =
     let start = served.0 in
     let losses = served.2.0 in (
@@ -28,7 +28,7 @@ same_order a b entries railway programming pace lose seed clients served =
         subst (λ (n : ℕ). IsSeeded n b.seed losses) lose (subst (λ (n : ℕ). IsSeeded a.lose n losses) seed served.2.1),
         subst (λ (p : Pace). start ≡ initial_state (specs_of entries) (names_of entries) railway programming p losses) pace served.2.2,
       ),
-      subst (λ (c : Option ℕ). IsRun (clients_of c) (unlogged start) (unlogged served.1)) clients served.3,
+      subst (λ (c : Option ℕ). IsRun (clients_of c) (moment unlogged start) (moment unlogged served.1)) clients served.3,
     )
 
 pub entries_copied : (roster : Option (Bor (List Entry))) → entries_of roster ≡ entries_in (option_copied roster)

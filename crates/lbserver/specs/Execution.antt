@@ -1,6 +1,6 @@
 -- The effect of `lbserver` for the arguments after its name: it serves as they order, or writes the
 -- text that they ask for.
-use Rattle.std.specs.Prelude.{ℕ, ◌≡◌, ◌⊎◌, ◌-◌, ◌==◌, ◌^◌, Bool, IsTrue, true, false, List, [], Option, Some, None, Result, Ok, Err}
+use Rattle.std.specs.Prelude.{ℕ, ◌≡◌, ⊤, ◌⊎◌, ◌-◌, ◌==◌, ◌||◌, ◌^◌, Bool, if◌then◌else◌, IsTrue, is_some, not, true, false, List, [], Option, Some, None, Result, Ok, Err}
 use Rattle.std.specs.Io.KnownBytes.{Appends}
 use Rattle.server_orders.specs.declared.words.ServerOrder.{ServerOrder}
 use Rattle.command_line.specs.Fault as order
@@ -19,9 +19,12 @@ use Rattle.bus_server.specs.declared.pace.Pace.TheVariants.{AfterMessages, RealT
 use Rattle.bus_server.specs.Losses.{IsSeeded}
 use Rattle.bus_server.specs.Pace.{is_pace}
 use Rattle.railway.specs.Railway.{RailwayState}
-use Rattle.programming_track.specs.declared.programming_track.ProgrammingTrack.{ProgrammingTrack}
+use Rattle.programming_track.specs.Bench.{BenchState}
 use Rattle.railway_plan.specs.Railways.{IsRailwayIn}
+use Rattle.bus_server.specs.AfterRound.{Shown}
+use Rattle.bus_server.specs.Observations.{Observation}
 use Rattle.bus_server.specs.Running.{IsRun, RunSnapshot}
+use Rattle.bus_server.specs.TransportEvents.{TransportEvent}
 use Rattle.lbserver.specs.Programmers.{IsProgrammingOf}
 use Rattle.lbserver.specs.declared.fault.ServerFault.{ServerFault}
 use Rattle.lbserver.specs.declared.fault.ServerFault.TheVariants.{Listen, Order, Output, Plan, Roster, Run, Unopened}
@@ -56,7 +59,7 @@ HasPace order = IsTrue (is_pace (pace_of order.turns order.rate))
 
 -- a new server for an order: the decoders of its roster, a railway and a programming track, its turns
 -- and its rate, and losses of its share, drawn from its seed
-abbrev pub IsNewServer : ServerOrder → List Entry → Option RailwayState → Option ProgrammingTrack → ServerState → Type 0
+abbrev pub IsNewServer : ServerOrder → List Entry → Option RailwayState → Option BenchState → ServerState → Type 0
 IsNewServer order entries railway programming start =
     (losses : Losses) × IsSeeded order.lose order.seed losses × (start ≡ initial_state (specs_of entries) (names_of entries) railway programming (pace_of order.turns order.rate) losses)
 
@@ -66,19 +69,36 @@ pub record IsReady (order : ServerOrder) (entries : List Entry) (hub : Hub) : Ty
   pub reported : HasReported hub
   pub new : IsNewServer order entries (state_of hub).railway (state_of hub).programming (state_of hub)
 
--- sockets, the system's clock and standard output keep no logs
-abbrev pub unlogged : ServerState → RunSnapshot
-unlogged state = record { log = None; readings = None; observed = None; shown = None; state = state }
+-- the logs of the devices that a server serves with: its transport, its clock, its observer, and what is shown after a round
+pub record RunLogs : Type 0 where
+  pub log : Option (List TransportEvent)
+  pub readings : Option (List ℕ)
+  pub observed : Option (List Observation)
+  pub shown : Option (List Shown)
 
--- A run of a new server for this order, until the given number of clients have disconnected.
-abbrev pub ServesOrder : ServerOrder → List Entry → Option RailwayState → Option ProgrammingTrack → Type 0
-ServesOrder order entries railway programming =
-    (start end : ServerState) × IsNewServer order entries railway programming start × IsRun (clients_of order.clients) (unlogged start) (unlogged end)
+-- sockets, the system's clock, the printer and standard output keep none
+abbrev pub unlogged : RunLogs
+unlogged = record { log = None; readings = None; observed = None; shown = None }
 
--- an order is served, with the programming track of its decoder
+abbrev pub logs_of : (log : Option (List TransportEvent)) → (readings : Option (List ℕ)) → (shown : Option (List Shown)) → RunLogs
+logs_of log readings shown = record { log = log; readings = readings; observed = None; shown = shown }
+
+abbrev pub moment : RunLogs → ServerState → RunSnapshot
+moment logs state = record { log = logs.log; readings = logs.readings; observed = logs.observed; shown = logs.shown; state = state }
+
+-- A run of a new server for this order, until the given number of clients have disconnected, by which these logs grew.
+abbrev pub ServesLogged : ServerOrder → List Entry → Option RailwayState → Option BenchState → (old new : RunLogs) → Type 0
+ServesLogged order entries railway programming old new =
+    (start end : ServerState) × IsNewServer order entries railway programming start × IsRun (clients_of order.clients) (moment old start) (moment new end)
+
+-- and with devices that keep none
+abbrev pub ServesOrder : ServerOrder → List Entry → Option RailwayState → Option BenchState → Type 0
+ServesOrder order entries railway programming = ServesLogged order entries railway programming unlogged unlogged
+
+-- an order is served, with the programming track of its decoders
 abbrev pub ServesProgrammer : ServerOrder → List Entry → Option RailwayState → Type 0
 ServesProgrammer order entries railway =
-    (programming : Option ProgrammingTrack) × IsProgrammingOf order.programmer programming × ServesOrder order entries railway programming
+    (programming : Option BenchState) × IsProgrammingOf order.programmer programming × ServesOrder order entries railway programming
 
 -- and with the railway of its plan
 abbrev pub ServesPlan : ServerOrder → List Entry → Type 0
@@ -112,21 +132,30 @@ status_of (Run fault) = run.status_of fault
 abbrev pub AreNoOrder : List (List ℕ) → Type 0
 AreNoOrder words = (fault : OrderFault) × IsServerFault words fault × (order.status_of fault ≡ 1)
 
--- a run ended for its words: with status 1
-abbrev pub ended_by_words : {A : Type 0} → Result A ServerFault → Bool
-ended_by_words (Ok a) = false
-ended_by_words (Err fault) = status_of fault == 1
+-- a fault of a file: it cannot be read, or its text has one
+abbrev pub is_of_file : ServerFault → Bool
+is_of_file fault = status_of fault == 2 || status_of fault == 3
 
--- standard output could not be written
-abbrev pub is_output : ServerFault → Bool
-is_output Output = true
-is_output other = false
+-- the order names a file, or asks for the page, which is one
+abbrev pub names_file : ServerOrder → Bool
+names_file order = is_some order.roster || is_some order.plan || is_some order.programmer || is_some order.page
 
--- whether a run ended for that
+abbrev pub NameFile : List (List ℕ) → Type 0
+NameFile words = (order : ServerOrder) × IsServerOrderOf words order × (names_file order ≡ true)
+
+-- A run of an order, which names a file or none, ended with this fault: not for the words; for a file only if one is named;
+-- and once standard output could not be written, with status 4.
+abbrev pub EndsBy : (named failed : Bool) → ServerFault → Type 0
+EndsBy named failed fault =
+    ((status_of fault == 1) ≡ false) × ((if named then true else not (is_of_file fault)) ≡ true) × ((if failed then status_of fault == 4 else true) ≡ true)
+
+-- A run of an order ended, if with a fault with one of these.
+abbrev pub IsEnd : {A : Type 0} → (named failed : Bool) → Result A ServerFault → Type 0
+IsEnd named failed (Ok a) = ⊤
+IsEnd named failed (Err fault) = EndsBy named failed fault
+
+-- whether a text could not be written
 abbrev pub ended_by_output : {A : Type 0} → Result A ServerFault → Bool
 ended_by_output (Ok a) = false
-ended_by_output (Err fault) = is_output fault
-
--- A run of an order ended: for standard output exactly if a write failed, and not for its words.
-abbrev pub IsEnd : {A : Type 0} → (failed : Bool) → Result A ServerFault → Type 0
-IsEnd failed result = (failed ≡ ended_by_output result) × (ended_by_words result ≡ false)
+ended_by_output (Err Output) = true
+ended_by_output (Err other) = false

@@ -1,23 +1,26 @@
 //! What follows a round: pages receive the states of decoders and trains, and the queued lines of the
 //! log are written.
-ghost use Rattle.std.specs.Prelude.{None};
+ghost use Rattle.std.specs.Prelude.{None, false};
 
 use crate::standard_output::StandardOutput;
 use bus_log::Printer;
 use bus_server::AfterRound;
-use console::WriteError;
 use layout_core::World;
 use railway::Railway;
 use sockets::Sockets;
+use std::convert::Infallible;
 use std::io::Write;
 use std::time::{Clock, Duration};
 
 impl<'s, 'p, R: Clock, O: Write> AfterRound<Sockets<'s, R>, Printer<'p>> for StandardOutput<O> {
-    type Fault = WriteError;
+    // A log that cannot be written stops no train.
+    type Fault = Infallible;
 
-    ghost failed = { λ output. output.failed };
+    ghost failed = { λ _. false };
 
     ghost shown = { λ _. None };
+
+    ghost begun = { λ _. None };
 
     fn after_round(
         &mut self,
@@ -25,9 +28,11 @@ impl<'s, 'p, R: Clock, O: Write> AfterRound<Sockets<'s, R>, Printer<'p>> for Sta
         printer: &mut Printer<'p>,
         world: &World,
         railway: Option<&Railway>,
-    ) -> Result<(), WriteError> {
+    ) -> Result<(), Infallible> {
         self.updates
             .send_all(transport, printer.roster(), world, railway);
-        printer.write_queued(self, Duration::ZERO)
+        // The output notes a failed write. The lines stay queued, and are tried again after the next round.
+        let _ = printer.write_queued(self, Duration::ZERO);
+        Ok(())
     }
 }

@@ -1,10 +1,10 @@
 //! Running the program on its arguments, its port and its clock.
-ghost use Rattle.std.specs.Prelude.{◌≡◌, ◌≤◌, OnOk, false, map, true};
+ghost use Rattle.std.specs.Prelude.{◌≡◌, ◌⊎◌, ◌≤◌, IfErr, None, OnOk, false, map, true};
 ghost use Rattle.roster.specs.Decoders.{entries_of};
 ghost use Rattle.bus_log.specs.Verbosities.{verbosity_of};
 ghost use Rattle.bus_server.specs.Snapshots.{state_of};
 ghost use Rattle.console.specs.Files.{IsRosterOf};
-ghost use Rattle.lbserver.specs.Execution.{HasPace, IsReady, RunsWords, ServesOrder, ServesPlan, ServesProgrammer, AreNoOrder, IsEnd, clients_of, ended_by_output, ended_by_words, entries_in, pace_of};
+ghost use Rattle.lbserver.specs.Execution.{HasPace, IsReady, RunsWords, ServesLogged, logs_of, ServesOrder, ServesPlan, ServesProgrammer, AreNoOrder, IsEnd, NameFile, clients_of, entries_in, is_of_file, names_file, pace_of, status_of};
 ghost use Rattle.server_orders.specs.declared.words.ServerOrder.{ServerOrder as OrderValue};
 
 use crate::answering::answer;
@@ -15,12 +15,13 @@ use crate::ports;
 use crate::programmer_file::read_programming;
 use crate::reach::reachable;
 use crate::roster_file::read_roster;
+use crate::roster_line::NAME;
 use crate::standard_output::StandardOutput;
 use bus_log::{LogQueue, Printer, Verbosity, decoders, print_listening, write_queued};
-use bus_server::{Losses, Pace, Server, Stop};
+use bus_server::{AfterRound, Losses, Pace, Server, Stop, TimeSource, Transport};
 use command_line::FileName;
 use console::RunFault;
-use programming_track::ProgrammingTrack;
+use programming_track::ProgrammingBench;
 use railway::Railway;
 use roster::Roster;
 use server_orders::{ServerOrder, server_order};
@@ -39,7 +40,7 @@ const LONGEST_PAGE: usize = 1_048_576;
 /// How long the last lines wait for a reader that accepts none, in milliseconds.
 const LAST_WAIT_MILLIS: u64 = 1_000;
 
-/// Runs the program on the arguments after its name, and returns its exit status, 0 to 6.
+/// Runs the program on the arguments after its name, and returns its exit status, 0 to 7.
 ///
 /// If the status is not 0, one line `lbserver: ..`, or the text of `clap` for the command line, is
 /// written to `faults`.
@@ -50,22 +51,40 @@ pub(crate) fn execute<O: Write, E: Write>(
     faults: &mut E,
 ) -> u8
     requires works { output.old.failed ≡ false }
-    ensures most { result ≤ 6 }
+    ensures most { result ≤ 7 }
     // Status 0 is returned only after a whole run of the order, or where the arguments ask for help
     // or the version, which is written to `output`.
     ensures serves { result ≡ 0 → RunsWords (map (λ word. word.now) words.entry.now)
         (O.contents output.old.writer) (O.contents output.new.writer) }
-    // Status 1 only where the arguments are those of no order.
+    // Status 7 as well, but a write of the log failed meanwhile.
+    ensures lost { result ≡ 7 → (output.new.failed ≡ true)
+        × RunsWords (map (λ word. word.now) words.entry.now) (O.contents output.old.writer)
+        (O.contents output.new.writer) }
+    // Status 1 only where the arguments are those of no order, 2 and 3 only where they name a file.
     ensures refuses { result ≡ 1 → AreNoOrder (map (λ word. word.now) words.entry.now) }
+    ensures unread { (result ≡ 2) ⊎ (result ≡ 3)
+        → NameFile (map (λ word. word.now) words.entry.now) }
     ensures quiet { result ≡ 0 → faults.new ≡ faults.old }
-    // No write of the output failed if the status is 0; if one failed, the status is 4.
+    // No write of the output failed if the status is 0; if one failed, the status is 4 or 7.
     ensures written { result ≡ 0 → output.new.failed ≡ false }
-    ensures unwritten { output.new.failed ≡ true → result ≡ 4 }
+    ensures unwritten { output.new.failed ≡ true → (result ≡ 4) ⊎ (result ≡ 7) }
 {
     match run(rt, words, output) {
-        Ok(()) => 0,
+        Ok(()) => end_status(output.failed, faults),
         Err(fault) => fault.report(faults),
     }
+}
+
+/// Returns the status of a run that was carried out. If a write of the log failed, it reports that.
+fn end_status<E: Write>(failed: bool, faults: &mut E) -> u8
+    ensures whole { failed ≡ false → (result ≡ 0) × (faults.new ≡ faults.old) }
+    ensures lost { failed ≡ true → result ≡ 7 }
+{
+    if !failed {
+        return 0;
+    }
+    let _ = writeln!(faults, "{NAME}: lines of the log may be missing");
+    7
 }
 
 /// Carries out the order of the arguments, or writes the text that they ask for.
@@ -80,9 +99,12 @@ fn run<O: Write>(
     requires works { output.old.failed ≡ false }
     ensures serves { OnOk result (RunsWords (map (λ word. word.now) words.entry.now)
         (O.contents output.old.writer) (O.contents output.new.writer)) }
-    ensures failed { output.new.failed ≡ ended_by_output result }
-    ensures refuses { ended_by_words result ≡ true
-        → AreNoOrder (map (λ word. word.now) words.entry.now) }
+    ensures refuses { IfErr result (λ fault. status_of fault ≡ 1
+        → AreNoOrder (map (λ word. word.now) words.entry.now)) }
+    ensures unread { IfErr result (λ fault. is_of_file fault ≡ true
+        → NameFile (map (λ word. word.now) words.entry.now)) }
+    ensures unwritten { IfErr result (λ fault. output.new.failed ≡ true
+        → status_of fault ≡ 4) }
 {
     match server_order(rt.alloc(), words) {
         Ok(mut order) => with_roster(rt, &mut order, output),
@@ -101,7 +123,7 @@ fn with_roster<O: Write>(
     ensures serves { OnOk result
         ((roster : _) × IsRosterOf order.old.roster roster
         × ServesPlan order.old (entries_in roster)) }
-    ensures end { IsEnd output.new.failed result }
+    ensures end { IsEnd (names_file order.old) output.new.failed result }
 {
     let roster = read_roster(rt, order.roster.take())?;
     with_plan(rt, order, roster.as_ref(), output)
@@ -117,13 +139,13 @@ fn with_plan<O: Write>(
     requires works { output.old.failed ≡ false }
     requires pace { HasPace order.old }
     ensures serves { OnOk result (ServesPlan order.old (entries_of roster.entry)) }
-    ensures end { IsEnd output.new.failed result }
+    ensures end { IsEnd (names_file order.old) output.new.failed result }
 {
     let railway = read_railway(rt, order.plan.take(), roster)?;
     with_programming(rt, order, roster, railway, output)
 }
 
-/// Continues with the programming track of the order's decoder.
+/// Continues with the programming track of the order's decoders.
 fn with_programming<O: Write>(
     rt: &HostRuntime,
     order: &mut ServerOrder,
@@ -135,7 +157,7 @@ fn with_programming<O: Write>(
     requires pace { HasPace order.old }
     ensures serves { OnOk result
         (ServesProgrammer order.old (entries_of roster.entry) railway) }
-    ensures end { IsEnd output.new.failed result }
+    ensures end { IsEnd (names_file order.old) output.new.failed result }
 {
     let programming = read_programming(rt, order.programmer.take())?;
     with_server(rt, order, roster, railway, programming, output)
@@ -147,14 +169,14 @@ fn with_server<O: Write>(
     order: &mut ServerOrder,
     roster: Option<&Roster>,
     railway: Option<Railway>,
-    programming: Option<ProgrammingTrack>,
+    programming: Option<ProgrammingBench>,
     output: &mut StandardOutput<O>,
 ) -> Result<(), ServerFault>
     requires works { output.old.failed ≡ false }
     requires pace { HasPace order.old }
     ensures serves { OnOk result
         (ServesOrder order.old (entries_of roster.entry) railway programming) }
-    ensures end { IsEnd output.new.failed result }
+    ensures end { IsEnd (names_file order.old) output.new.failed result }
 {
     let losses = Losses::new(order.lose, u64::from(order.seed));
     let pace = pace_of(order.turns, order.rate);
@@ -181,7 +203,7 @@ fn with_sockets<O: Write>(
     requires ready { IsReady order.old (entries_of roster) server.old.hub }
     ensures serves { OnOk result (ServesOrder order.old (entries_of roster.entry)
         (state_of server.old.hub).railway (state_of server.old.hub).programming) }
-    ensures end { IsEnd output.new.failed result }
+    ensures end { IsEnd (names_file order.old) output.new.failed result }
 {
     let address = SocketAddr::from((order.address, order.port));
     let mut sockets = match ports::bind(rt, address) {
@@ -206,7 +228,7 @@ fn with_page<O: Write>(
     requires ready { IsReady order.old (entries_of roster) server.old.hub }
     ensures serves { OnOk result (ServesOrder order.old (entries_of roster.entry)
         (state_of server.old.hub).railway (state_of server.old.hub).programming) }
-    ensures end { IsEnd output.new.failed result }
+    ensures end { IsEnd (names_file order.old) output.new.failed result }
 {
     if let Some(page) = order.page {
         let address = SocketAddr::from((order.address, page));
@@ -229,19 +251,17 @@ fn with_log<O: Write>(
     requires ready { IsReady order.now (entries_of roster) server.old.hub }
     ensures serves { OnOk result (ServesOrder order.now (entries_of roster.entry)
         (state_of server.old.hub).railway (state_of server.old.hub).programming) }
-    ensures end { IsEnd output.new.failed result }
+    ensures end { IsEnd (names_file order.now) output.new.failed result }
 {
     let mut log = LogQueue::new(rt.alloc())?;
     report_addresses(rt, sockets, &mut log)?;
-    write_queued(&mut log, output, Duration::ZERO)?;
+    // The output notes a failed write; the lines stay queued.
+    let _ = write_queued(&mut log, output, Duration::ZERO);
     let verbosity = Verbosity::of(order.track, order.quiet);
     let mut printer = Printer::new(log, roster, verbosity, server.world(), server.railway());
     let served = serve(rt, order, server, sockets, &mut printer, output);
-    if let Err(ServerFault::Output) = served {
-        return served;
-    }
     // A reader that accepts nothing for this long is not waited for.
-    printer.write_queued(output, Duration::from_millis(LAST_WAIT_MILLIS))?;
+    let _ = printer.write_queued(output, Duration::from_millis(LAST_WAIT_MILLIS));
     served
 }
 
@@ -253,7 +273,7 @@ fn bind_page(
     file: Option<FileName>,
     names: Vec<String>,
 ) -> Result<(), ServerFault>
-    ensures { IsEnd false result }
+    ensures { IsEnd true false result }
 {
     let page = read_page(rt, file)?;
     match ports::bind_page(rt, sockets, address, page.as_slice(), names) {
@@ -264,7 +284,7 @@ fn bind_page(
 
 /// Returns the page of this file, or that of the repository.
 fn read_page(rt: &HostRuntime, file: Option<FileName>) -> Result<Vec<u8>, ServerFault>
-    ensures { IsEnd false result }
+    ensures { IsEnd true false result }
 {
     let file = match file {
         Some(file) => file,
@@ -279,7 +299,7 @@ fn report_addresses(
     sockets: &Sockets<'_, HostRuntime>,
     log: &mut LogQueue,
 ) -> Result<(), ServerFault>
-    ensures { IsEnd false result }
+    ensures { IsEnd false false result }
 {
     let Ok((bus, page)) = sockets.addresses() else {
         return Err(ServerFault::Run(RunFault::Network));
@@ -304,23 +324,48 @@ fn serve<O: Write>(
     printer: &mut Printer<'_>,
     output: &mut StandardOutput<O>,
 ) -> Result<(), ServerFault>
-    requires works { output.old.failed ≡ false }
     requires ready { IsReady order.now (entries_of printer.old.roster) server.old.hub }
     requires verbosity { printer.old.verbosity ≡ verbosity_of order.now.track order.now.quiet }
     ensures serves { OnOk result (ServesOrder order.now (entries_of printer.old.roster)
         (state_of server.old.hub).railway (state_of server.old.hub).programming) }
-    ensures end { IsEnd output.new.failed result }
+    ensures end { IfErr result (λ fault. status_of fault ≡ 4) }
 {
     let Ok(watch) = Stopwatch::new(rt) else {
         return Err(ServerFault::Run(RunFault::Network));
     };
     let mut clock = Ticking { clock: rt, watch };
+    serve_on(order, server, sockets, &mut clock, printer, output)
+}
+
+/// Serves an order by these devices, whatever they are: that a run was one of the order is promised of
+/// what each of them logged.
+fn serve_on<'p, W: Transport, C: TimeSource, A: AfterRound<W, Printer<'p>>>(
+    order: &ServerOrder,
+    server: &mut Server,
+    transport: &mut W,
+    clock: &mut C,
+    printer: &mut Printer<'p>,
+    after_round: &mut A,
+) -> Result<(), ServerFault>
+where
+    W::Fault: Drop,
+    C::Fault: Drop,
+    A::Fault: Drop,
+    requires begun { A.begun after_round.old ≡ None }
+    requires ready { IsReady order.now (entries_of printer.old.roster) server.old.hub }
+    requires verbosity { printer.old.verbosity ≡ verbosity_of order.now.track order.now.quiet }
+    ensures serves { OnOk result (ServesLogged order.now (entries_of printer.old.roster)
+        (state_of server.old.hub).railway (state_of server.old.hub).programming
+        (logs_of (W.log transport.old) (C.readings clock.old) (A.shown after_round.old))
+        (logs_of (W.log transport.new) (C.readings clock.new) (A.shown after_round.new))) }
+    ensures end { IfErr result (λ fault. status_of fault ≡ 4) }
+{
     let most = most_clients(order.clients);
-    match server.run(sockets, &mut clock, printer, output, most) {
+    match server.run(transport, clock, printer, after_round, most) {
         Ok(()) => Ok(()),
         Err(Stop::Transport(_)) | Err(Stop::Clock(_)) => Err(ServerFault::Run(RunFault::Network)),
         Err(Stop::Observer(never)) => match never {},
-        Err(Stop::AfterRound(fault)) => Err(ServerFault::from(fault)),
+        Err(Stop::AfterRound(_)) => Err(ServerFault::Output),
     }
 }
 

@@ -2,7 +2,7 @@
 ghost use Rattle.std.specs.Prelude.{◌≡◌, ◌<◌, ◌≤◌, false, true};
 ghost use Rattle.console.specs.declared.fault.RunFault.TheVariants.{NoMemory};
 ghost use Rattle.lbserver.specs.declared.fault.ServerFault.TheVariants.{Order, Output, Run};
-ghost use Rattle.lbserver.specs.Execution.{is_output, status_of};
+ghost use Rattle.lbserver.specs.Execution.{is_of_file, status_of};
 
 use crate::roster_line::{NAME, write_roster_fault};
 use command_line::{FileName, OrderFault, open_error_words};
@@ -40,7 +40,7 @@ pub(crate) enum ServerFault {
         file: FileName,
         fault: LocatedFault,
     },
-    /// Status 4: standard output could not be written.
+    /// Status 4: a text could not be written to standard output.
     Output,
     /// A fault that other programs have too.
     Run(RunFault),
@@ -49,7 +49,7 @@ pub(crate) enum ServerFault {
 impl ServerFault {
     /// Returns the fault of an address and port that could not be bound for this error.
     pub(crate) fn of_bind(address: SocketAddr, error: &io::Error) -> ServerFault
-        ensures output { is_output result ≡ false }
+        ensures file { is_of_file result ≡ false }
         ensures status { 1 < status_of result }
     {
         match error.kind() {
@@ -60,7 +60,6 @@ impl ServerFault {
 
     /// Returns the fault of a file that could not be opened for this reason.
     pub(crate) fn of_opening(file: FileName, why: ErrorKind) -> ServerFault
-        ensures output { is_output result ≡ false }
         ensures status { 1 < status_of result }
     {
         match why {

@@ -1,5 +1,5 @@
 //! Reading the files that the options name.
-ghost use Rattle.std.specs.Prelude.{◌≡◌, ◌<◌, ◌≤◌, ◌+◌, ◌^◌, IfOk, false, length};
+ghost use Rattle.std.specs.Prelude.{◌≡◌, ◌<◌, ◌≤◌, ◌+◌, ◌^◌, IfOk, false, length, true};
 ghost use Rattle.lbserver.specs.Execution.{IsEnd};
 
 use crate::fault::ServerFault;
@@ -19,7 +19,7 @@ pub(crate) fn read_file(
 ) -> Result<Vec<u8>, ServerFault>
     requires { most + 1 < 2 ^ 32 }
     ensures most { IfOk result (λ bytes. length bytes.items ≤ most) }
-    ensures end { IsEnd false result }
+    ensures end { IsEnd true false result }
 {
     let mut input = match open_file(rt, &file) {
         Ok(input) => input,

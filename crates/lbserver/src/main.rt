@@ -36,6 +36,6 @@ fn main(rt: HostRuntime) -> ExitCode {
 fn run_words(rt: &HostRuntime) -> Result<u8, ServerFault> {
     let words = read_words(rt.alloc(), rt, |alloc| not_utf8_server_text(alloc))?;
     let texts = texts(rt.alloc(), words.as_slice())?;
-    let mut output = StandardOutput::new(rt, TerminalWriter::new(rt, io::writer(rt)))?;
+    let mut output = StandardOutput::new(rt, TerminalWriter::new(rt, io::writer(rt)), rt.stderr())?;
     Ok(execute(rt, texts.as_slice(), &mut output, &mut rt.stderr()))
 }

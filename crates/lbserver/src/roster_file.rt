@@ -1,9 +1,9 @@
 //! Reading a roster from its file.
-ghost use Rattle.std.specs.Prelude.{◌≡◌, ◌≢◌, ◌<◌, Ok, Err, IfErr, IfOk, false};
+ghost use Rattle.std.specs.Prelude.{◌≡◌, ◌≢◌, ◌<◌, Ok, Err, IfErr, IfOk, is_some, false, true};
 ghost use Rattle.console.specs.Files.{IsRosterOf};
 ghost use Rattle.roster.specs.Format.{roster_in};
 ghost use Rattle.roster.specs.declared.fault.Why.TheVariants.{NoMemory};
-ghost use Rattle.lbserver.specs.Execution.{IsEnd, is_output, status_of};
+ghost use Rattle.lbserver.specs.Execution.{IsEnd, status_of};
 ghost use Rattle.lbserver.specs.RosterFaults.{HasFault};
 
 use crate::fault::ServerFault;
@@ -24,7 +24,7 @@ pub(crate) fn read_roster(
     file: Option<FileName>,
 ) -> Result<Option<Roster>, ServerFault>
     ensures roster { IfOk result (λ roster. IsRosterOf file roster) }
-    ensures end { IsEnd false result }
+    ensures end { IsEnd (is_some file) false result }
 {
     let Some(file) = file else {
         return Ok(None);
@@ -38,7 +38,7 @@ pub(crate) fn read_roster(
 pub(crate) fn roster_of(alloc: Global, file: FileName, text: &[u8]) -> Result<Roster, ServerFault>
     ensures roster { IfOk result (λ roster. roster_in text.now ≡ Ok roster) }
     ensures fault { IfErr result (HasFault file text.now) }
-    ensures end { IsEnd false result }
+    ensures end { IsEnd true false result }
 {
     match roster::read(alloc, text) {
         Ok(roster) => Ok(roster),
@@ -50,7 +50,6 @@ pub(crate) fn roster_of(alloc: Global, file: FileName, text: &[u8]) -> Result<Ro
 fn fault_of(alloc: Global, file: FileName, text: &[u8], fault: RosterFault) -> ServerFault
     requires { fault.why ≢ NoMemory → roster_in text.now ≡ Err fault }
     ensures fault { HasFault file text.now result }
-    ensures output { is_output result ≡ false }
     ensures status { 1 < status_of result }
 {
     if let roster::Why::NoMemory = fault.why {

@@ -4,6 +4,7 @@ ghost use Rattle.std.specs.Prelude.{◌≡◌, IfOk, None, OnOk, false, true};
 ghost use Rattle.std.specs.Io.KnownBytes.{Appends};
 ghost use Rattle.input_text.specs.Write.{failed_after};
 
+use crate::roster_line::NAME;
 use bus_log::LogOutput;
 use console::{RunFault, WriteError};
 use mio::unix::SourceFd;
@@ -11,7 +12,7 @@ use mio::{Events, Interest, Poll, Token};
 use pages::Updates;
 use std::alloc::AllocGlobal;
 use std::io;
-use std::io::{ErrorKind, Write};
+use std::io::{ErrorKind, Stderr, Write};
 use std::net::Net;
 use std::os::fd::RawFd;
 use std::time::Duration;
@@ -35,6 +36,8 @@ pub(crate) struct StandardOutput<O> {
     is_pollable: bool,
     /// Whether a write failed.
     pub(crate) failed: bool,
+    /// Where the first failed write of the log is reported.
+    faults: Stderr,
     pub(crate) updates: Updates,
 }
 
@@ -44,7 +47,11 @@ impl<O: Write + Drop> StandardOutput<O> {
     /// # Errors
     ///
     /// `Network` if the system has no poll left, and `NoMemory`.
-    pub(crate) fn new<R: Net + AllocGlobal>(rt: &R, writer: O) -> Result<Self, RunFault>
+    pub(crate) fn new<R: Net + AllocGlobal>(
+        rt: &R,
+        writer: O,
+        faults: Stderr,
+    ) -> Result<Self, RunFault>
         ensures { IfOk result (λ output. output.failed ≡ false) }
     {
         let Ok(poll) = Poll::new(rt) else {
@@ -63,6 +70,7 @@ impl<O: Write + Drop> StandardOutput<O> {
             events,
             is_pollable: registered.is_ok(),
             failed: false,
+            faults,
             updates: Updates::new(),
         })
     }
@@ -83,6 +91,22 @@ impl<O: Write> StandardOutput<O> {
             Ok(()) => Ok(()),
             Err(_) => Err(self.fail()),
         }
+    }
+
+    /// Records that a write of the log failed, and reports it the first time. The run goes on: what
+    /// it drives does not depend on a log.
+    fn note_failure(&mut self, why: ErrorKind) -> WriteError
+        ensures writer { self.new.writer ≡ self.old.writer }
+        ensures failed { self.new.failed ≡ true }
+    {
+        if !self.failed {
+            let reason = reason_of(why);
+            let _ = writeln!(
+                self.faults,
+                "{NAME}: the log cannot be written: {reason}; running on without it"
+            );
+        }
+        self.fail()
     }
 
     /// Records that a write failed.
@@ -147,8 +171,19 @@ impl<O: Write> LogOutput for StandardOutput<O> {
         match self.writer.write(bytes) {
             Ok(count) => Ok(count),
             Err(error) if is_retryable(&error) => Ok(0),
-            Err(_) => Err(self.fail()),
+            Err(error) => Err(self.note_failure(error.kind())),
         }
+    }
+}
+
+/// Returns why a write failed, in words.
+fn reason_of(why: ErrorKind) -> &'static str {
+    match why {
+        ErrorKind::StorageFull => "no space left on the device",
+        ErrorKind::QuotaExceeded => "the quota is used up",
+        ErrorKind::FileTooLarge => "the file is too large",
+        ErrorKind::BrokenPipe => "its reader has closed the pipe",
+        _ => "write error",
     }
 }
 

@@ -1,5 +1,8 @@
-use Rattle.std.proofs.Common.{inl}
+use Rattle.std.proofs.Common.{inl, refl}
 use Rattle.std.proofs.lemmas.Result.{on_ok_weaker}
+use Rattle.command_line.specs.Requests.{is_request}
+use Rattle.lbserver.specs.Execution.{names_file}
+use Rattle.lbserver.proofs.Ends.{no_order, of_named}
 use Rattle.lbserver.proofs.Orders.{has_pace}
 use Rattle.lbserver.proofs.executing.run.Goals as goal
 
@@ -10,3 +13,11 @@ with_roster-requires-clause-pace g c =
 
 pub returns-in-Ok-clause-serves : goal.returns-in-Ok-clause-serves
 returns-in-Ok-clause-serves g c = on_ok_weaker c.with_roster.result (λ served. inl (c.in-Ok.order, served.0, c.in-Ok.ensures.order, served.1, served.2)) c.with_roster.ensures.serves
+
+pub returns-in-Ok-clause-unread : goal.returns-in-Ok-clause-unread
+returns-in-Ok-clause-unread g c =
+    of_named _ (names_file c.in-Ok.order) c.with_roster.new.output.failed c.with_roster.result (λ named. (c.in-Ok.order, c.in-Ok.ensures.order, named)) c.with_roster.ensures.end
+
+pub returns-in-Err-clause-refuses : goal.returns-in-Err-clause-refuses
+returns-in-Err-clause-refuses g c =
+    no_order _ c.in-Err.fault (is_request c.in-Err.fault) c.answer.result refl c.in-Err.ensures.fault c.answer.ensures.failed (λ is. (c.answer.ensures.kept is).0)

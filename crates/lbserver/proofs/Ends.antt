@@ -1,0 +1,43 @@
+-- What a run of arguments ended by.
+use Rattle.std.proofs.Common.{◌≡◌, ℕ, Bool, true, false, List, Result, Ok, Err, refl, subst, sym, ◌∙◌, arith, inl, inr}
+use Rattle.std.specs.Prelude.{◌⊎◌, ◌||◌, ◌==◌, IfErr, not}
+use Rattle.std.proofs.lemmas.Bool.{both_ways}
+use Rattle.command_line.specs.declared.fault.OrderFault.{OrderFault}
+use Rattle.command_line.specs.Requests.{is_request}
+use Rattle.console.specs.declared.fault.RunFault.TheVariants.{NoMemory}
+use Rattle.server_orders.specs.ServerLine.{IsServerFault}
+use Rattle.lbserver.specs.declared.fault.ServerFault.{ServerFault}
+use Rattle.lbserver.specs.declared.fault.ServerFault.TheVariants.{Order, Output, Run}
+use Rattle.lbserver.specs.Execution.{AreNoOrder, IsEnd, is_of_file, status_of}
+
+-- for a file only if one is named
+pub of_named : {A : Type 0} (P : Type 0) (named failed : Bool) (r : Result A ServerFault) → (named ≡ true → P) → IsEnd named failed r → IfErr r (λ fault. is_of_file fault ≡ true → P)
+of_named P named failed (Ok value) gives ends = tt
+of_named P true failed (Err fault) gives ends = λ of. gives refl
+of_named P false failed (Err fault) gives ends = λ of. absurd (both_ways false refl (subst (λ (b : Bool). not b ≡ true) of ends.1))
+
+abbrev HasStatus1 : {A : Type 0} → Result A ServerFault → Type 0
+HasStatus1 (Ok a) = ⊥
+HasStatus1 (Err fault) = status_of fault ≡ 1
+
+-- for the arguments only if they are no order: not where they ask for a text
+pub no_order : {A : Type 0} (words : List (List ℕ)) (fault : OrderFault) (asks : Bool) (r : Result A ServerFault) → is_request fault ≡ asks → IsServerFault words fault
+    → (is_request fault ≡ true → IfErr r (λ e. (e ≡ Output) ⊎ (e ≡ Run NoMemory))) → (is_request fault ≡ false → r ≡ Err (Order fault)) → IfErr r (λ e. status_of e ≡ 1 → AreNoOrder words)
+no_order words fault asks (Ok a) same is asked kept = tt
+no_order words fault true (Err e) same is asked kept = λ one. elim (asked same) [
+  | inl output ↦ let four : 4 ≡ 1 = subst (λ (f : ServerFault). status_of f ≡ 1) output one in absurd (omega (arith, four))
+  | inr memory ↦ let six : 6 ≡ 1 = subst (λ (f : ServerFault). status_of f ≡ 1) memory one in absurd (omega (arith, six))
+]
+no_order {A = A} words fault false (Err e) same is asked kept = λ one. (fault, is, subst (λ (r : Result A ServerFault). HasStatus1 r) (kept same) one)
+
+-- a run that was carried out has status 0 or 7
+pub done_or_lost : {P Q : Type 0} (failed : Bool) (status : ℕ) → (failed ≡ false → (status ≡ 0) × Q) → (failed ≡ true → status ≡ 7) → (status ≡ 2) ⊎ (status ≡ 3) → P
+done_or_lost true status whole lost (inl two) = let seven = lost refl in absurd (omega (arith, seven, two))
+done_or_lost true status whole lost (inr three) = let seven = lost refl in absurd (omega (arith, seven, three))
+done_or_lost false status whole lost (inl two) = let none = (whole refl).0 in absurd (omega (arith, none, two))
+done_or_lost false status whole lost (inr three) = let none = (whole refl).0 in absurd (omega (arith, none, three))
+
+-- 2 and 3 are those of files
+pub of_file : (status : ℕ) (fault : ServerFault) → status ≡ status_of fault → (status ≡ 2) ⊎ (status ≡ 3) → is_of_file fault ≡ true
+of_file status fault same (inl two) = subst (λ (n : ℕ). (n == 2 || n == 3) ≡ true) (sym two ∙ same) refl
+of_file status fault same (inr three) = subst (λ (n : ℕ). (n == 2 || n == 3) ≡ true) (sym three ∙ same) refl
