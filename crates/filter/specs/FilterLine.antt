@@ -1,6 +1,6 @@
--- The command line of a filter, as clap reads it: `[--FLAG] [FILE]`; and its order: what clap's
+-- The command line of a filter, as clap reads it: `[--FLAG] [--SECOND] [FILE]`; and its order: what clap's
 -- matches of its arguments hold.
-use Rattle.std.specs.Prelude.{◌≡◌, ◌↔◌, Bool, true, false, List, [], ◌∷◌, codes, Option, Some, None, option_map}
+use Rattle.std.specs.Prelude.{◌≡◌, ◌↔◌, Bool, true, false, List, [], ◌∷◌, ◌++◌, codes, Option, Some, None, option_map}
 use Rattle.clap.specs.Words.{App, Row, Rule, Text, fault_of, first_of, matches_of, one_of}
 use Rattle.command_line.specs.CommandLine.{flag, named_app, value, with_rules}
 use Rattle.command_line.specs.Requests.{AsksForText}
@@ -17,7 +17,7 @@ flag_rules None = []
 flag_rules (Some name) = flag name ∷ []
 
 abbrev pub filter_rules : FilterText → List Rule
-filter_rules text = value (codes "file") ∷ flag_rules (flag_of text.flag)
+filter_rules text = value (codes "file") ∷ (flag_rules (flag_of text.flag) ++ flag_rules (flag_of text.second_flag))
 
 unfoldable pub filter_app : FilterText → App
 filter_app text = with_rules (named_app text.name.now false) (filter_rules text)
@@ -37,4 +37,5 @@ IsFlagIn (Some name) rows is_set = (is_set ≡ true) ↔ (one_of name rows ≡ S
 
 pub record IsFilterOrder (text : FilterText) (words : List Text) (order : FilterOrder) : Type 0 where
   pub of_file : order.file ≡ file_in text words
-  pub with_flag_set : IsFlagIn (flag_of text.flag) (matches_of (filter_app text) words) order.is_flagged
+  pub with_flag_set : IsFlagIn (flag_of text.flag) (matches_of (filter_app text) words) order.flags.first
+  pub with_second_set : IsFlagIn (flag_of text.second_flag) (matches_of (filter_app text) words) order.flags.second

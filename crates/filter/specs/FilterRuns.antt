@@ -1,7 +1,8 @@
 -- The effect of a filter for the arguments after its name.
-use Rattle.std.specs.Prelude.{ℕ, ◌≡◌, ◌≢◌, ◌⊎◌, Bool, List, [], Option, Some, None}
+use Rattle.std.specs.Prelude.{ℕ, ◌≡◌, ◌≢◌, ◌⊎◌, List, [], Option, Some, None}
 use Rattle.std.specs.Io.KnownBytes.{Appends}
 use Rattle.clap.specs.Words.{Text, fault_of}
+use Rattle.filter.specs.declared.text.FilterFlags.{FilterFlags}
 use Rattle.filter.specs.declared.text.FilterOrder.{FilterOrder}
 use Rattle.filter.specs.declared.text.FilterText.{FilterText}
 use Rattle.filter.specs.FilterLine.{AsksFilter, IsFilterOrder, filter_app}
@@ -31,8 +32,8 @@ abbrev pub Rejects : FilterText → (words : List Text) → Type 0
 Rejects text words = fault_of (filter_app text) words ≢ []
 
 -- A filter with these texts ran as its arguments order, or answered them.
-abbrev pub RunsWords : (Bool → Effect) → FilterText → (words : List Text) → (old_input new_input old_output new_output : Option (List ℕ)) → Type 0
+abbrev pub RunsWords : (FilterFlags → Effect) → FilterText → (words : List Text) → (old_input new_input old_output new_output : Option (List ℕ)) → Type 0
 RunsWords filters text words old_input new_input old_output new_output =
     ((fault_of (filter_app text) words ≡ []) × ((order : FilterOrder) × IsFilterOrder text words order
-    × RunsOn (filters order.is_flagged) order.file old_input new_input old_output new_output))
+    × RunsOn (filters order.flags) order.file old_input new_input old_output new_output))
     ⊎ Answers text words old_input new_input old_output new_output

@@ -24,15 +24,9 @@ pub(crate) fn exit_status(status: u8, is_closed: bool) -> u8
 /// A writer that notes whether it found a pipe that its reader has closed.
 #[derive(Drop)]
 pub(crate) struct PipeWriter<'a, W> {
-    writer: W,
-    is_closed: &'a Cell<bool>,
-}
-
-impl<'a, W: Write> PipeWriter<'a, W> {
-    /// Creates a writer, which sets `is_closed` when it finds the pipe closed.
-    pub(crate) fn new(writer: W, is_closed: &'a Cell<bool>) -> Self {
-        PipeWriter { writer, is_closed }
-    }
+    pub(crate) writer: W,
+    /// Set when the pipe is found closed.
+    pub(crate) is_closed: &'a Cell<bool>,
 }
 
 impl<W: Write> Write for PipeWriter<'_, W> {
@@ -58,15 +52,9 @@ impl<W: Write> Write for PipeWriter<'_, W> {
 /// A writer of fault lines, which are left out once the pipe of the output is closed.
 #[derive(Drop)]
 pub(crate) struct FaultWriter<'a, E> {
-    faults: E,
-    is_closed: &'a Cell<bool>,
-}
-
-impl<'a, E: Write> FaultWriter<'a, E> {
-    /// Creates a writer, which is silent once `is_closed` is set.
-    pub(crate) fn new(faults: E, is_closed: &'a Cell<bool>) -> Self {
-        FaultWriter { faults, is_closed }
-    }
+    pub(crate) faults: E,
+    /// Whether the writer is silent.
+    pub(crate) is_closed: &'a Cell<bool>,
 }
 
 impl<E: Write> Write for FaultWriter<'_, E> {

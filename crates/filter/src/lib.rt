@@ -26,4 +26,4 @@ pub use filter::Filter;
 pub use orders::filter_order;
 pub use running::execute_words;
 pub use standard::run_filter;
-pub use text::{FilterFlag, FilterOrder, FilterText};
+pub use text::{FilterFlag, FilterFlags, FilterOrder, FilterText};

@@ -9,7 +9,7 @@ ghost use Rattle.command_line.specs.Requests.{IsRequestedBy};
 ghost use Rattle.filter.specs.FilterLine.{IsFilterOrder, IsFlagIn, filter_app, filter_rules, flag_of};
 
 use crate::table::{SOURCE, flag_argument, program_text};
-use crate::text::{FilterFlag, FilterOrder, FilterText};
+use crate::text::{FilterFlag, FilterFlags, FilterOrder, FilterText};
 use clap::ArgMatches;
 use command_line::{Argument, OrderFault, file_name, flag, matches_of, not_utf8};
 use std::alloc::Global;
@@ -18,9 +18,15 @@ use std::alloc::Global;
 pub(crate) fn not_utf8_text(alloc: Global, text: FilterText<'_>) -> OrderFault
     ensures kind { IsOfKind InvalidValue result }
 {
-    match text.flag {
-        Some(flag) => not_utf8(alloc, &program_text(text, &[SOURCE, flag_argument(flag)])),
-        None => not_utf8(alloc, &program_text(text, &[SOURCE])),
+    match (text.flag, text.second_flag) {
+        (Some(flag), Some(second)) => not_utf8(
+            alloc,
+            &program_text(text, &[SOURCE, flag_argument(flag), flag_argument(second)]),
+        ),
+        (Some(flag), None) | (None, Some(flag)) => {
+            not_utf8(alloc, &program_text(text, &[SOURCE, flag_argument(flag)]))
+        }
+        (None, None) => not_utf8(alloc, &program_text(text, &[SOURCE])),
     }
 }
 
@@ -54,7 +60,10 @@ fn order_by<'a>(
     let matches = matches_of(alloc, &program_text(text, arguments), words)?;
     Ok(FilterOrder {
         file: file_name(alloc, &matches, "file")?,
-        is_flagged: is_set(&matches, text.flag),
+        flags: FilterFlags {
+            first: is_set(&matches, text.flag),
+            second: is_set(&matches, text.second_flag),
+        },
     })
 }
 
@@ -83,8 +92,16 @@ pub fn filter_order<'a>(
     ensures requested { IfErr result (IsRequestedBy
         (fault_of (filter_app text.entry) (map (λ word. word.now) words.entry.now))) }
 {
-    match text.flag {
-        Some(flag) => order_by(alloc, text, &[SOURCE, flag_argument(flag)], words),
-        None => order_by(alloc, text, &[SOURCE], words),
+    match (text.flag, text.second_flag) {
+        (Some(flag), Some(second)) => order_by(
+            alloc,
+            text,
+            &[SOURCE, flag_argument(flag), flag_argument(second)],
+            words,
+        ),
+        (Some(flag), None) | (None, Some(flag)) => {
+            order_by(alloc, text, &[SOURCE, flag_argument(flag)], words)
+        }
+        (None, None) => order_by(alloc, text, &[SOURCE], words),
     }
 }

@@ -10,7 +10,7 @@ ghost use Rattle.input_text.specs.Write.{failed_after};
 use crate::filter::Filter;
 use crate::orders::filter_order;
 use crate::report::StartFault;
-use crate::text::{FilterOrder, FilterText};
+use crate::text::{FilterFlags, FilterOrder, FilterText};
 use command_line::{FileName, OrderFault, open_file};
 use input_text::{Broken, Input, Output, put_all};
 use std::alloc::Global;
@@ -76,25 +76,16 @@ fn run_order<F: Filter, R: Files + AllocGlobal, I: Input, O: Output, E: Write>(
     requires writes { O.failed output.old ≡ false }
     ensures most { result ≤ 6 }
     ensures done { result ≡ 0
-        → RunsOn (F.filters order.is_flagged) order.file (I.left input.old) (I.left input.new)
+        → RunsOn (F.filters order.flags) order.file (I.left input.old) (I.left input.new)
         (O.held output.old) (O.held output.new) }
     ensures unread { (file : Text) → order.file ≡ Some file → input.new ≡ input.old }
     ensures unwritten { O.failed output.new ≡ (result == 4) }
     ensures quiet { result ≡ 0 → faults.new ≡ faults.old }
 {
-    let is_flagged = order.is_flagged;
+    let flags = order.flags;
     match order.file {
-        Some(file) => run_on_file(filter, program, rt, is_flagged, file, output, faults),
-        None => {
-            filter.execute(
-                rt.alloc(),
-                is_flagged,
-                STANDARD_INPUT,
-                input,
-                output,
-                faults,
-            )
-        }
+        Some(file) => run_on_file(filter, program, rt, flags, file, output, faults),
+        None => { filter.execute(rt.alloc(), flags, STANDARD_INPUT, input, output, faults) }
     }
 }
 
@@ -103,7 +94,7 @@ fn run_on_file<F: Filter, R: Files + AllocGlobal, O: Output, E: Write>(
     filter: &F,
     program: &str,
     rt: &R,
-    is_flagged: bool,
+    flags: FilterFlags,
     file: FileName,
     output: &mut O,
     faults: &mut E,
@@ -111,14 +102,14 @@ fn run_on_file<F: Filter, R: Files + AllocGlobal, O: Output, E: Write>(
     requires writes { O.failed output.old ≡ false }
     ensures most { result ≤ 6 }
     ensures done { result ≡ 0
-        → RunsOnFile (F.filters is_flagged) (O.held output.old) (O.held output.new) }
+        → RunsOnFile (F.filters flags) (O.held output.old) (O.held output.new) }
     ensures unwritten { O.failed output.new ≡ (result == 4) }
     ensures quiet { result ≡ 0 → faults.new ≡ faults.old }
 {
     match open_file(rt, &file) {
         Ok(mut input) => filter.execute(
             rt.alloc(),
-            is_flagged,
+            flags,
             file.as_str(),
             &mut input,
             output,

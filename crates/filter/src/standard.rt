@@ -68,8 +68,14 @@ fn run_on_streams<F: Filter, I: Input, W: Write + Drop, E: Write + Drop>(
     ensures most { result ≤ 6 }
 {
     let is_closed = Cell::new(false);
-    let mut output = TrackedWriter::new(PipeWriter::new(writer, &is_closed));
-    let mut faults = FaultWriter::new(faults, &is_closed);
+    let mut output = TrackedWriter::new(PipeWriter {
+        writer,
+        is_closed: &is_closed,
+    });
+    let mut faults = FaultWriter {
+        faults,
+        is_closed: &is_closed,
+    };
     let status = execute_words(filter, text, rt, words, input, &mut output, &mut faults);
     exit_status(status, is_closed.get())
 }

@@ -22,6 +22,17 @@ pub struct FilterText<'a> {
     pub details: &'a str,
     /// The flag that it has, if it has one.
     pub flag: Option<FilterFlag<'a>>,
+    /// A second flag.
+    pub second_flag: Option<FilterFlag<'a>>,
+}
+
+/// Which flags are set.
+#[derive(Clone, Copy)]
+pub struct FilterFlags {
+    /// Whether the flag is set. Without a flag it is false.
+    pub first: bool,
+    /// The same of the second flag.
+    pub second: bool,
 }
 
 /// An order to a filter.
@@ -29,6 +40,5 @@ pub struct FilterText<'a> {
 pub struct FilterOrder {
     /// The file to read. Without it standard input is read.
     pub file: Option<FileName>,
-    /// Whether the flag is set. Without a flag it is false.
-    pub is_flagged: bool,
+    pub flags: FilterFlags,
 }

@@ -29,6 +29,7 @@ returns-clause-order c =
     record {
       of_file = c.in_ok-file_name.ensures ∙ ap (λ (rows : List Row). first_of (codes "file") rows) rows;
       with_flag_set = subst (λ (rows : List Row). IsFlagIn (flag_of c.args.text.flag) rows c.is_set.result) rows c.is_set.ensures;
+      with_second_set = subst (λ (rows : List Row). IsFlagIn (flag_of c.args.text.second_flag) rows c.is_set-2.result) rows c.is_set-2.ensures;
     }
 
 pub returns-clause-taken : goal.returns-clause-taken
