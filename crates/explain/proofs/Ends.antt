@@ -4,7 +4,7 @@ use Rattle.std.proofs.lemmas.Bool.{and_parts, not-true, cases_Bool}
 use Rattle.explain.specs.Explained.{shown}
 use Rattle.explain.specs.Lines.{body_of, end_of, is_end}
 use Rattle.text.specs.Lines.{is_open}
-use Rattle.explain.specs.LineKinds.{note_of}
+use Rattle.explain.specs.Notes.{note_of}
 
 -- what ends no line ends none in its parts
 pub open-parts : (xs ys : List ℕ) → is_open (xs ++ ys) ≡ true → (is_open xs ≡ true) × (is_open ys ≡ true)

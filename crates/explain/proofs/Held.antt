@@ -8,7 +8,9 @@ use Rattle.explain.specs.Explained.{explained, shown}
 use Rattle.explain.specs.Lines.{body_of, end_of, lines_of, onto_line}
 use Rattle.text.specs.Lines.{is_open}
 use Rattle.explain.specs.Brackets.{without_brackets}
-use Rattle.explain.specs.LineKinds.{message_in, note_of}
+use Rattle.explain.specs.LineKinds.{message_in}
+use Rattle.explain.specs.Notes.{note_of}
+use Rattle.explain.specs.Parts.{parts_of}
 use Rattle.explain.specs.Unfinished.{copied, to_write}
 use Rattle.explain.proofs.Ends.{body-front, first-open, open-both, rest-open, shown-last, whole}
 
@@ -85,7 +87,7 @@ unfolding explained
 explained-ended xs more h = ap (flat_map shown) (lines-ended xs more h)
 
 explained-none : explained [] ≡ shown []
-unfolding explained message_in without_brackets words_of bytes_of are_pairs leading_bytes
+unfolding explained message_in without_brackets words_of bytes_of are_pairs leading_bytes parts_of
 explained-none = refl
 
 explained-last : (xs : List ℕ) → is_open xs ≡ true → explained (xs ++ []) ≡ shown xs

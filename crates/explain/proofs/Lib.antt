@@ -3,6 +3,7 @@ mod Ends
 mod Held
 mod Copying
 mod Messages
+pub mod Cuts
 mod LogLines
 mod Printed
 mod TwoSpaces

@@ -1,7 +1,7 @@
 -- The output for a text (own).
 use Rattle.std.specs.Prelude.{ℕ, List, ◌++◌, flat_map}
 use Rattle.explain.specs.Lines.{body_of, end_of, lines_of}
-use Rattle.explain.specs.LineKinds.{note_of}
+use Rattle.explain.specs.Notes.{note_of}
 
 -- a line, with its explanation before its end
 abbrev pub shown : List ℕ → List ℕ

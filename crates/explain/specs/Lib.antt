@@ -8,4 +8,6 @@ pub mod HexText
 pub mod Lines
 pub mod Streams
 pub mod LineKinds
+pub mod Notes
+pub mod Parts
 pub mod Unfinished

@@ -58,7 +58,3 @@ words_about line =
 abbrev pub set_off : List ℕ → List ℕ
 set_off [] = []
 set_off (w ∷ words) = 32 ∷ 32 ∷ w ∷ words
-
--- the explanation added to a line, given without its end: none for one of more than 400 characters
-abbrev pub note_of : List ℕ → List ℕ
-note_of line = if nat_lt 400 (length line) then [] else set_off (words_about line)

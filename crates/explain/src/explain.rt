@@ -3,7 +3,7 @@ ghost use Rattle.explain.specs.Conversion.{ExplainsOrConverts};
 
 use crate::conversion::convert;
 use crate::streams::execute;
-use filter::{Filter, FilterFlag, FilterText};
+use filter::{Filter, FilterFlag, FilterFlags, FilterText};
 use input_text::{Input, Output};
 use std::alloc::Global;
 use std::io::Write;
@@ -23,19 +23,20 @@ impl Filter for Explain {
                 name: "hex",
                 help: "Writes only the bytes of messages, one message a line, as station monitor reads them",
             }),
+            second_flag: None,
         }
     }
 
     fn execute<I: Input, O: Output, E: Write>(
         &self,
         alloc: Global,
-        is_flagged: bool,
+        flags: FilterFlags,
         source: &str,
         input: &mut I,
         output: &mut O,
         faults: &mut E,
     ) -> u8 {
-        if is_flagged {
+        if flags.first {
             convert(alloc, source, input, output, faults)
         } else {
             execute(alloc, source, input, output, faults)

@@ -4,6 +4,7 @@ ghost use Rattle.text.specs.Words.{words_of};
 ghost use Rattle.describe.specs.Messages.{message_words};
 ghost use Rattle.loconet_tcp.specs.Requests.{leading_bytes};
 ghost use Rattle.explain.specs.LineKinds.{message_in, monitored_in, programming_in, said_by, turn_in, words_about};
+ghost use Rattle.explain.specs.Notes.{captured_in, is_named};
 
 use crate::brackets::without_brackets;
 use crate::fault_lines::{fault_in, names_program};
@@ -105,4 +106,32 @@ pub(crate) fn describe_line(line: &[u8], words: &mut Words)
         return write_text(fault_in(rest_after).as_bytes(), words);
     }
     describe_message_in(without_brackets(line), words);
+}
+
+/// Whether the first word says what the line is about.
+fn is_named(line: &[u8]) -> bool
+    ensures { result ≡ is_named line.now }
+{
+    let first = cut_piece(line).0;
+    first == b"reply".as_slice()
+        || first == b"track".as_slice()
+        || first == b"programming".as_slice()
+        || first == b"msg".as_slice()
+        || first == b"RECEIVE".as_slice()
+        || first == b"SEND".as_slice()
+        || names_program(first)
+}
+
+/// Returns the bytes of a line that is bytes alone, or has them between brackets; else none.
+pub(crate) fn captured_in(line: &[u8]) -> Bytes
+    requires { length line.now ≤ 400 }
+    ensures { result.items ≡ captured_in line.now }
+{
+    if is_named(line) {
+        return Bytes::new();
+    }
+    match bytes_of(without_brackets(line)) {
+        Some(bytes) => bytes,
+        None => Bytes::new(),
+    }
 }

@@ -3,9 +3,10 @@ ghost use Rattle.std.specs.Prelude.{◌≡◌, ◌<◌, ◌∷◌, ◌++◌, [],
 ghost use Rattle.explain.specs.Explained.{shown};
 ghost use Rattle.explain.specs.Lines.{body_of, end_of};
 ghost use Rattle.text.specs.Lines.{is_open};
-ghost use Rattle.explain.specs.LineKinds.{note_of};
+ghost use Rattle.explain.specs.Notes.{note_of};
 
-use crate::line_kinds::describe_line;
+use crate::line_kinds::{captured_in, describe_line};
+use crate::parts::{has_several, push_parts, push_words};
 use describe::Words;
 use loconet_tcp::LONGEST_LINE;
 use std::alloc::AllocError;
@@ -23,19 +24,20 @@ pub(crate) fn body_and_end(line: &[u8]) -> (&[u8], &[u8])
     }
 }
 
-/// Appends two spaces and the explanation of a line, if it has one; `words` is a buffer for it.
+/// Appends two spaces and the explanation of a line, if it has one, or that of each message in it;
+/// `words` is a buffer for it.
 fn push_note(line: &[u8], words: &mut Words, text: &mut Vec<u8>) -> Result<(), AllocError>
     ensures { OnOk result (text.new.items ≡ text.old.items ++ note_of line.now) }
 {
     if line.len() > LONGEST_LINE {
         return Ok(());
     }
-    describe_line(line, words);
-    if words.is_empty() {
-        return Ok(());
+    let captured = captured_in(line);
+    if has_several(captured.as_slice()) {
+        return push_parts(captured.as_slice(), words, text);
     }
-    text.extend_from_slice(b"  ")?;
-    text.extend_from_slice(words.as_slice())
+    describe_line(line, words);
+    push_words(words, text)
 }
 
 /// Appends the text of a line, its explanation, and its end.

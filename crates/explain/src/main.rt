@@ -13,6 +13,7 @@ mod hex;
 mod laws;
 mod line_kinds;
 mod lines;
+mod parts;
 mod streams;
 
 pub use conversion::convert;

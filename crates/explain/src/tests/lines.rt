@@ -67,7 +67,7 @@ const PRINTED: [Row; 12] = [
     (b"msg 83 7C power on", b"\n", b"  track power on"),
 ];
 
-const CAPTURED: [Row; 15] = [
+const CAPTURED: [Row; 21] = [
     (b"RECEIVE 83 7C", b"\r\n", b"  track power on"),
     (b"SEND 82 7D", b"\r\n", b"  track power off"),
     (b"SEND\t82  7d", b"\n", b"  track power off"),
@@ -78,7 +78,27 @@ const CAPTURED: [Row; 15] = [
     (b"track 2 off", b"", b"  no power, nothing is sent"),
     // The explanation of an invalid message or packet is the reason.
     (b"83 7D", b"\n", b"  wrong check byte, should be 7C"),
-    (b"83 7C 00", b"\n", b"  wrong length"),
+    // Several messages, and bytes that belong to none.
+    (b"83 7C 00", b"\n", b"  track power on  skipped 00"),
+    (
+        b"12 34 A0 01 40 1E",
+        b"\n",
+        b"  skipped 12 34  slot 1: speed 63 of 126",
+    ),
+    (
+        b"A0 01 40 1E 83 7D",
+        b"\r\n",
+        b"  slot 1: speed 63 of 126  wrong check byte, should be 7C",
+    ),
+    (b"A0 01 83 7C", b"", b"  skipped A0 01  track power on"),
+    (
+        b"[83 7C 82 7D]",
+        b"\n",
+        b"  track power on  track power off",
+    ),
+    // No whole message, and a line that has one alone.
+    (b"83 7D 00", b"\n", b"  wrong length"),
+    (b"RECEIVE 83 7C 00", b"\r\n", b"  wrong length"),
     (b"03", b"\n", b"  no opcode"),
     (b"A0 81 40 1E", b"\n", b"  data above 7F"),
     (
