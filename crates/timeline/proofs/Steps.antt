@@ -4,10 +4,11 @@ use Rattle.std.proofs.lemmas.List.{append-nil}
 use Rattle.trace.specs.declared.reported_state.Seen.{Seen}
 use Rattle.timeline.specs.declared.event.Event.{Event}
 use Rattle.timeline.specs.declared.mark.Mark.{Mark}
+use Rattle.timeline.specs.declared.moment.Moment.{Moment}
 use Rattle.timeline.specs.declared.row.Kind.{Kind}
 use Rattle.timeline.specs.declared.row.Row.{Row}
 use Rattle.timeline.specs.declared.row.Row.TheVariants.{Lane}
-use Rattle.timeline.specs.Picture.{marks_of, marks_text, next_text, room_of, row_text, rows_text, turn_after, with_mark, x_of}
+use Rattle.timeline.specs.Picture.{marks_of, marks_text, next_text, room_of, moment_after, row_text, rows_text, with_mark, x_of}
 use Rattle.timeline.specs.Rows.{height_of, is_shown, kinds, lane_rows, row_if, rows_in}
 
 pub rows_next : (turns : ℕ) (events : List Event) (top : ℕ) (rows : List Row) (row : Row) (rest : List Row) → rows ≡ row ∷ rest
@@ -19,25 +20,25 @@ pub rows_end : (turns : ℕ) (events : List Event) (top : ℕ) (rows : List Row)
 unfolding rows_text
 rows_end turns events top rows is = ap (rows_text turns events top) is
 
-pub marks_end : (row : Row) (turns base turn : ℕ) (last : Option Mark) (events : List Event) → events ≡ [] → marks_text row base last (marks_of row turns turn events) ≡ []
+pub marks_end : (row : Row) (turns base : ℕ) (before : Moment) (last : Option Mark) (events : List Event) → events ≡ [] → marks_text row base last (marks_of row turns before events) ≡ []
 unfolding marks_of marks_text
-marks_end row turns base turn last events is = ap (λ (es : List Event). marks_text row base last (marks_of row turns turn es)) is
+marks_end row turns base before last events is = ap (λ (es : List Event). marks_text row base last (marks_of row turns before es)) is
 
-pub marks_none : (row : Row) (turns base turn : ℕ) (last : Option Mark) (events : List Event) (event : Event) (rest : List Event) → events ≡ event ∷ rest → height_of row event ≡ None
-    → marks_text row base last (marks_of row turns turn events) ≡ marks_text row base last (marks_of row turns (turn_after turn event) rest)
+pub marks_none : (row : Row) (turns base : ℕ) (before : Moment) (last : Option Mark) (events : List Event) (event : Event) (rest : List Event) → events ≡ event ∷ rest → height_of row event ≡ None
+    → marks_text row base last (marks_of row turns before events) ≡ marks_text row base last (marks_of row turns (moment_after before event) rest)
 unfolding marks_of
-marks_none row turns base turn last events event rest is none =
-    ap (λ (es : List Event). marks_text row base last (marks_of row turns turn es)) is
-    ∙ ap (λ (h : Option ℕ). marks_text row base last (with_mark (x_of turns (turn_after turn event)) h (marks_of row turns (turn_after turn event) rest))) none
+marks_none row turns base before last events event rest is none =
+    ap (λ (es : List Event). marks_text row base last (marks_of row turns before es)) is
+    ∙ ap (λ (h : Option ℕ). marks_text row base last (with_mark (x_of turns (moment_after before event).turn) h (marks_of row turns (moment_after before event) rest))) none
 
-pub marks_some : (row : Row) (turns base turn : ℕ) (last : Option Mark) (events : List Event) (event : Event) (rest : List Event) (height : ℕ) (mark : Mark) → events ≡ event ∷ rest → height_of row event ≡ Some height
-    → mark ≡ record { x = x_of turns (turn_after turn event); height = height }
-    → marks_text row base last (marks_of row turns turn events) ≡ next_text row base last mark ++ marks_text row base (Some mark) (marks_of row turns (turn_after turn event) rest)
+pub marks_some : (row : Row) (turns base : ℕ) (before : Moment) (last : Option Mark) (events : List Event) (event : Event) (rest : List Event) (height : ℕ) (mark : Mark) → events ≡ event ∷ rest → height_of row event ≡ Some height
+    → mark ≡ record { x = x_of turns (moment_after before event).turn; height = height }
+    → marks_text row base last (marks_of row turns before events) ≡ next_text row base last mark ++ marks_text row base (Some mark) (marks_of row turns (moment_after before event) rest)
 unfolding marks_of marks_text
-marks_some row turns base turn last events event rest height mark is some same =
-    ap (λ (es : List Event). marks_text row base last (marks_of row turns turn es)) is
-    ∙ ap (λ (h : Option ℕ). marks_text row base last (with_mark (x_of turns (turn_after turn event)) h (marks_of row turns (turn_after turn event) rest))) some
-    ∙ ap (λ (m : Mark). next_text row base last m ++ marks_text row base (Some m) (marks_of row turns (turn_after turn event) rest)) (sym same)
+marks_some row turns base before last events event rest height mark is some same =
+    ap (λ (es : List Event). marks_text row base last (marks_of row turns before es)) is
+    ∙ ap (λ (h : Option ℕ). marks_text row base last (with_mark (x_of turns (moment_after before event).turn) h (marks_of row turns (moment_after before event) rest))) some
+    ∙ ap (λ (m : Mark). next_text row base last m ++ marks_text row base (Some m) (marks_of row turns (moment_after before event) rest)) (sym same)
 
 pub kinds_next : (lane : Seen) (events : List Event) (left : List Kind) (kind : Kind) (rest : List Kind) (rows now : List Row) (all : List Row) → left ≡ kind ∷ rest → rows ++ rows_in lane events left ≡ all
     → now ≡ rows ++ row_if (is_shown lane events kind) (Lane lane kind) → now ++ rows_in lane events rest ≡ all

@@ -6,8 +6,9 @@ use Rattle.std.specs.Io.KnownBytes.{Appends}
 use Rattle.std.specs.Prelude.{Result, Ok, Err, OnOk}
 use Rattle.timeline.specs.declared.event.Event.{Event}
 use Rattle.timeline.specs.declared.mark.Mark.{Mark}
+use Rattle.timeline.specs.declared.moment.Moment.{Moment}
 use Rattle.timeline.specs.declared.row.Row.{Row}
-use Rattle.timeline.specs.Picture.{marks_of, marks_text, next_text, turn_after, x_of}
+use Rattle.timeline.specs.Picture.{marks_of, marks_text, moment_after, next_text, x_of}
 use Rattle.timeline.specs.Rows.{height_of}
 use Rattle.timeline.proofs.Steps.{marks_none, marks_some}
 
@@ -41,24 +42,24 @@ written_all all left old now has none =
     subst (λ (bs : List ℕ). Appends old now bs) (sym (append-nil has.written) ∙ ap (λ (bs : List ℕ). has.written ++ bs) (sym none) ∙ has.whole) has.appended
 
 -- An event of which a row shows something.
-pub marked : (row : Row) (turns base turn now : ℕ) (last new_last : Option Mark) (events : List Event) (event : Event) (rest : List Event) (height x : ℕ) (shown : Option ℕ) (all : List ℕ) (old before after after_all : Option (List ℕ))
-    → HasWritten all (marks_text row base last (marks_of row turns turn events)) old before → events ≡ event ∷ rest → now ≡ turn_after turn event → shown ≡ height_of row event → shown ≡ Some height → x ≡ x_of turns now
+pub marked : (row : Row) (turns base : ℕ) (moment now : Moment) (last new_last : Option Mark) (events : List Event) (event : Event) (rest : List Event) (height x : ℕ) (shown : Option ℕ) (all : List ℕ) (old before after after_all : Option (List ℕ))
+    → HasWritten all (marks_text row base last (marks_of row turns moment events)) old before → events ≡ event ∷ rest → now ≡ moment_after moment event → shown ≡ height_of row event → shown ≡ Some height → x ≡ x_of turns now.turn
     → new_last ≡ Some (record { x = x; height = height }) → Appends before after (next_text row base last (record { x = x; height = height })) → after_all ≡ after → HasWritten all (marks_text row base new_last (marks_of row turns now rest)) old after_all
-marked row turns base turn now last new_last events event rest height x shown all old before after after_all has is turns_on shows some at kept here same =
+marked row turns base moment now last new_last events event rest height x shown all old before after after_all has is turns_on shows some at kept here same =
     let mark : Mark = record { x = x; height = height } in
-    let place : mark ≡ record { x = x_of turns (turn_after turn event); height = height } = ap (λ (n : ℕ). record { x = n; height = height }) (at ∙ ap (x_of turns) turns_on) in
-    let parts = marks_some row turns base turn last events event rest height mark is (sym shows ∙ some) place in
+    let place : mark ≡ record { x = x_of turns (moment_after moment event).turn; height = height } = ap (λ (n : ℕ). record { x = n; height = height }) (at ∙ ap (λ (m : Moment). x_of turns m.turn) turns_on) in
+    let parts = marks_some row turns base moment last events event rest height mark is (sym shows ∙ some) place in
     subst (λ (o : Option (List ℕ)). HasWritten all (marks_text row base new_last (marks_of row turns now rest)) old o) (sym same)
     (subst (λ (l : Option Mark). HasWritten all (marks_text row base l (marks_of row turns now rest)) old after) (sym kept)
-    (subst (λ (t : ℕ). HasWritten all (marks_text row base (Some mark) (marks_of row turns t rest)) old after) (sym turns_on)
-    (written_more all (marks_text row base last (marks_of row turns turn events)) (next_text row base last mark) (marks_text row base (Some mark) (marks_of row turns (turn_after turn event) rest)) old before after has parts here)))
+    (subst (λ (t : Moment). HasWritten all (marks_text row base (Some mark) (marks_of row turns t rest)) old after) (sym turns_on)
+    (written_more all (marks_text row base last (marks_of row turns moment events)) (next_text row base last mark) (marks_text row base (Some mark) (marks_of row turns (moment_after moment event) rest)) old before after has parts here)))
 
 -- And one of which it shows nothing.
-pub unmarked : (row : Row) (turns base turn now : ℕ) (last new_last : Option Mark) (events : List Event) (event : Event) (rest : List Event) (shown : Option ℕ) (all : List ℕ) (old before after : Option (List ℕ))
-    → HasWritten all (marks_text row base last (marks_of row turns turn events)) old before → events ≡ event ∷ rest → now ≡ turn_after turn event → shown ≡ height_of row event → shown ≡ None
+pub unmarked : (row : Row) (turns base : ℕ) (moment now : Moment) (last new_last : Option Mark) (events : List Event) (event : Event) (rest : List Event) (shown : Option ℕ) (all : List ℕ) (old before after : Option (List ℕ))
+    → HasWritten all (marks_text row base last (marks_of row turns moment events)) old before → events ≡ event ∷ rest → now ≡ moment_after moment event → shown ≡ height_of row event → shown ≡ None
     → new_last ≡ last → after ≡ before → HasWritten all (marks_text row base new_last (marks_of row turns now rest)) old after
-unmarked row turns base turn now last new_last events event rest shown all old before after has is turns_on shows none kept same =
+unmarked row turns base moment now last new_last events event rest shown all old before after has is turns_on shows none kept same =
     subst (λ (o : Option (List ℕ)). HasWritten all (marks_text row base new_last (marks_of row turns now rest)) old o) (sym same)
     (subst (λ (l : Option Mark). HasWritten all (marks_text row base l (marks_of row turns now rest)) old before) (sym kept)
-    (subst (λ (t : ℕ). HasWritten all (marks_text row base last (marks_of row turns t rest)) old before) (sym turns_on)
-    (written_same all (marks_text row base last (marks_of row turns turn events)) (marks_text row base last (marks_of row turns (turn_after turn event) rest)) old before has (marks_none row turns base turn last events event rest is (sym shows ∙ none)))))
+    (subst (λ (t : Moment). HasWritten all (marks_text row base last (marks_of row turns t rest)) old before) (sym turns_on)
+    (written_same all (marks_text row base last (marks_of row turns moment events)) (marks_text row base last (marks_of row turns (moment_after moment event) rest)) old before has (marks_none row turns base moment last events event rest is (sym shows ∙ none)))))

@@ -7,24 +7,30 @@ use Rattle.dcc_packet.specs.declared.address.Address.TheVariants.{Short, Long}
 use Rattle.trace.specs.declared.reported_state.ReportedState.{ReportedState}
 use Rattle.trace.specs.declared.reported_state.ReportedState.TheVariants as stands
 use Rattle.timeline.specs.declared.event.Event.{Event}
-use Rattle.timeline.specs.declared.event.Event.TheVariants.{Sent, Off, Shown}
+use Rattle.timeline.specs.declared.event.Event.TheVariants.{TurnBegan, Shown, Message}
 use Rattle.timeline.specs.declared.mark.Mark.{Mark}
+use Rattle.timeline.specs.declared.moment.Moment.{Moment}
+use Rattle.trace.specs.Traffic.{turns_since}
 use Rattle.timeline.specs.declared.row.Kind.{Kind}
 use Rattle.timeline.specs.declared.row.Kind.TheVariants.{Packets, Speed, Stops, Emergencies, Direction, Function, Output}
 use Rattle.timeline.specs.declared.row.Row.{Row}
 use Rattle.timeline.specs.declared.row.Row.TheVariants.{Strip, Lane}
 use Rattle.timeline.specs.declared.row.Part.{Part}
-use Rattle.timeline.specs.declared.row.Part.TheVariants.{Locomotives, Accessories, Everyone, Idle, Unpowered}
+use Rattle.timeline.specs.declared.row.Part.TheVariants.{Locomotives, Accessories, Everyone, Idle, Unpowered, Messages}
 use Rattle.timeline.specs.Rows.{height_of, rows_of}
 
--- Turns are counted by their lines, from 1; events before the first are at 0.
-abbrev pub turn_after : ℕ → Event → ℕ
-turn_after turn (Sent packet) = turn + 1
-turn_after turn Off = turn + 1
-turn_after turn (Shown seen) = turn
+-- Turns are counted from 1, those among them whose lines are left out; events before the first are
+-- at 0.
+abbrev pub moment_after : Moment → Event → Moment
+moment_after before (TurnBegan turn) = record { turn = before.turn + turns_since before.number turn.number; number = turn.number }
+moment_after before (Shown seen) = before
+moment_after before Message = before
 
-abbrev pub turns_from : ℕ → List Event → ℕ
-turns_from turn events = fold turn_after turn events
+abbrev pub start : Moment
+start = record { turn = 0; number = 0 }
+
+abbrev pub moment_from : Moment → List Event → Moment
+moment_from before events = fold moment_after before events
 
 -- a thousand pixels for all turns, after 170 for names
 abbrev pub x_of : (turns turn : ℕ) → ℕ
@@ -36,10 +42,10 @@ abbrev pub with_mark : ℕ → Option ℕ → List Mark → List Mark
 with_mark x (Some height) marks = record { x = x; height = height } ∷ marks
 with_mark x None marks = marks
 
-unfoldable pub marks_of : Row → (turns turn : ℕ) → List Event → List Mark
-marks_of row turns turn [] = []
-marks_of row turns turn (event ∷ events) =
-    with_mark (x_of turns (turn_after turn event)) (height_of row event) (marks_of row turns (turn_after turn event) events)
+unfoldable pub marks_of : Row → (turns : ℕ) → Moment → List Event → List Mark
+marks_of row turns before [] = []
+marks_of row turns before (event ∷ events) =
+    with_mark (x_of turns (moment_after before event).turn) (height_of row event) (marks_of row turns (moment_after before event) events)
 
 -- a row that is a stepped line, and not of separate marks
 abbrev pub is_line : Row → Bool
@@ -58,6 +64,7 @@ part_strokes Accessories = codes "v6"
 part_strokes Everyone = codes "m0-6v12"
 part_strokes Idle = codes "m-1-1h2v2h-2z"
 part_strokes Unpowered = codes "m-3-3l6 6m0-6l-6 6"
+part_strokes Messages = codes "v-6"
 
 abbrev pub strokes_of : Row → List ℕ
 strokes_of (Strip part) = part_strokes part
@@ -105,6 +112,7 @@ part_name Accessories = codes "to accessories"
 part_name Everyone = codes "to all"
 part_name Idle = codes "idle"
 part_name Unpowered = codes "power off"
+part_name Messages = codes "messages"
 
 abbrev pub module_name : ℕ → List ℕ
 module_name number = codes "packets, module " ++ decimal number
@@ -150,13 +158,30 @@ base_line base = codes "</text>\n<path stroke-width=\"0.3\" d=\"M170 " ++ decima
 abbrev pub path_open : List ℕ → List ℕ
 path_open style = codes "<path stroke-width=\"" ++ style ++ codes "\" d=\""
 
--- Its name, its base from the first turn to the last, and its marks.
+-- a number between two texts
+abbrev pub framed : List ℕ → ℕ → List ℕ → List ℕ
+framed first number second = first ++ decimal number ++ second
+
+-- The scale of a speed: thin lines at the last step and at half of it, with labels.
+
+abbrev pub is_speed : Row → Bool
+is_speed (Lane lane Speed) = true
+is_speed row = false
+
+unfoldable pub scale_at : (base : ℕ) → List ℕ
+scale_at base =
+    framed (codes "<path stroke-width=\"0.3\" stroke-dasharray=\"1 3\" d=\"M170 ") (base - 48) (codes "H1170M170 ") ++ framed [] (base - 24) (codes "H1170\"/>\n") ++ framed (codes "<text font-size=\"8\" x=\"1174\" y=\"") (base - 45) (codes "\">100%</text>\n") ++ framed (codes "<text font-size=\"8\" x=\"1174\" y=\"") (base - 21) (codes "\">50%</text>\n")
+
+unfoldable pub scale_text : Row → (base : ℕ) → List ℕ
+scale_text row base = if is_speed row then scale_at base else []
+
+-- Its name, its base from the first turn to the last, its scale, and its marks.
 
 unfoldable pub head_text : Row → (base : ℕ) → List ℕ
-head_text row base = label_open base ++ name_of row ++ base_line base ++ path_open (style_of row)
+head_text row base = label_open base ++ name_of row ++ base_line base ++ scale_text row base ++ path_open (style_of row)
 
 unfoldable pub row_text : Row → (turns : ℕ) → List Event → (base : ℕ) → List ℕ
-row_text row turns events base = head_text row base ++ marks_text row base None (marks_of row turns 0 events) ++ codes "\"/>\n"
+row_text row turns events base = head_text row base ++ marks_text row base None (marks_of row turns start events) ++ codes "\"/>\n"
 
 -- rows one below another, the first below this height
 unfoldable pub rows_text : (turns : ℕ) → List Event → (top : ℕ) → List Row → List ℕ
@@ -180,10 +205,6 @@ title =
     ++ codes "<text x=\"8\" y=\"22\" font-size=\"16\">What station printed, turn by turn</text>\n"
 
 -- The number of a turn above a thin line from there to the end of the rows.
--- a number between two texts
-abbrev pub framed : List ℕ → ℕ → List ℕ → List ℕ
-framed first number second = first ++ decimal number ++ second
-
 unfoldable pub turn_at : (x turn bottom : ℕ) → List ℕ
 turn_at x turn bottom =
     framed (codes "<text text-anchor=\"middle\" x=\"") x (codes "\" y=\"46\">") ++ framed [] turn (codes "</text>\n") ++ framed (codes "<path stroke-width=\"0.3\" stroke-dasharray=\"1 3\" d=\"M") x (codes " 50V") ++ framed [] bottom (codes "\"/>\n")
@@ -200,12 +221,12 @@ axis turns bottom =
 abbrev pub legend : (bottom : ℕ) → List ℕ
 legend bottom =
     codes "<g transform=\"translate(8 " ++ decimal (bottom + 28) ++ codes ")\">\n"
-    ++ codes "<text>Packets: tick up to a locomotive, tick down to an accessory decoder, long tick to all or to one decoder, dot idle, cross no power.</text>\n"
-    ++ codes "<text y=\"16\">Speed: from 0 at the base to the last step; below it a tick where it stands by a stop, a cross by an emergency stop. Dashed: direction. Thin: functions. Dotted: outputs.</text>\n"
+    ++ codes "<text>Packets: tick up to a locomotive, tick down to an accessory decoder, long tick to all or to one decoder, dot idle, cross no power, blank idle or no power, not printed.</text>\n"
+    ++ codes "<text y=\"16\">Speed: in hundredths of the last step; below it a tick where it stands by a stop, a cross by an emergency stop. Dashed: direction. Thin: functions. Dotted: outputs.</text>\n"
     ++ codes "</g>\n</svg>\n"
 
 abbrev pub picture_with : (turns bottom : ℕ) → List Event → List Row → List ℕ
 picture_with turns bottom events rows = opening bottom ++ title ++ axis turns bottom ++ rows_text turns events 52 rows ++ legend bottom
 
 abbrev pub picture_of : List Event → List ℕ
-picture_of events = picture_with (turns_from 0 events) (bottom_of 52 (rows_of events)) events (rows_of events)
+picture_of events = picture_with (moment_from start events).turn (bottom_of 52 (rows_of events)) events (rows_of events)

@@ -14,13 +14,13 @@ use Rattle.trace.specs.declared.reported_state.Seen.{Seen}
 use Rattle.trace.specs.declared.reported_state.ReportedState.{ReportedState}
 use Rattle.trace.specs.declared.reported_state.ReportedState.TheVariants as stands
 use Rattle.timeline.specs.declared.event.Event.{Event}
-use Rattle.timeline.specs.declared.event.Event.TheVariants.{Sent, Off, Shown}
+use Rattle.timeline.specs.declared.event.Event.TheVariants.{TurnBegan, Shown, Message}
 use Rattle.timeline.specs.declared.row.Kind.{Kind}
 use Rattle.timeline.specs.declared.row.Kind.TheVariants.{Packets, Speed, Stops, Emergencies, Direction, Function, Output}
 use Rattle.timeline.specs.declared.row.Row.{Row}
 use Rattle.timeline.specs.declared.row.Row.TheVariants.{Strip, Lane}
 use Rattle.timeline.specs.declared.row.Part.{Part}
-use Rattle.timeline.specs.declared.row.Part.TheVariants.{Locomotives, Accessories, Everyone, Idle, Unpowered}
+use Rattle.timeline.specs.declared.row.Part.TheVariants.{Locomotives, Accessories, Everyone, Idle, Unpowered, Messages}
 
 -- The receivers of a packet: a locomotive, an accessory decoder, none, or all.
 abbrev pub part_of : Option Instr → Part
@@ -42,15 +42,21 @@ place_of Accessories = 1
 place_of Everyone = 2
 place_of Idle = 3
 place_of Unpowered = 4
+place_of Messages = 5
 
 abbrev pub is_part : Part → Part → Bool
 is_part one other = place_of one == place_of other
 
--- the event of a turn
+-- what a turn sent
+abbrev pub part_sent : Option (List ℕ) → Part
+part_sent (Some packet) = part_of (instruction_of packet)
+part_sent None = Unpowered
+
+-- the event of a turn, or a message
 abbrev pub is_in : Part → Event → Bool
-is_in part (Sent packet) = is_part part (part_of (instruction_of packet))
-is_in part Off = is_part part Unpowered
+is_in part (TurnBegan turn) = is_part part (part_sent turn.packet)
 is_in part (Shown seen) = false
+is_in part Message = is_part part Messages
 
 abbrev pub is_address : Address → Address → Bool
 is_address (Short one) (Short other) = one == other
@@ -79,6 +85,11 @@ is_for_module own instr = false
 abbrev pub is_for : ReportedState → Option Instr → Bool
 is_for (stands.Loco address motion forward functions) instr = is_for_loco address instr
 is_for (stands.Accessory number outputs) instr = is_for_module number instr
+
+-- what a turn sent is for the decoder of this state
+abbrev pub is_sent_to : ReportedState → Option (List ℕ) → Bool
+is_sent_to reported_state (Some packet) = is_for reported_state (instruction_of packet)
+is_sent_to reported_state None = false
 
 -- Heights are in pixels above the base of a row.
 
@@ -128,9 +139,9 @@ is_packets kind = false
 
 -- what the row of this kind shows of an event, in the lane of a decoder given in its first state
 abbrev pub lane_height : Seen → Kind → Event → Option ℕ
-lane_height lane kind (Sent packet) = mark_if (is_packets kind && is_for lane.reported_state (instruction_of packet))
-lane_height lane kind Off = None
+lane_height lane kind (TurnBegan turn) = mark_if (is_packets kind && is_sent_to lane.reported_state turn.packet)
 lane_height lane kind (Shown seen) = if bytes_eq seen.name lane.name then state_height kind seen.reported_state else None
+lane_height lane kind Message = None
 
 abbrev pub height_of : Row → Event → Option ℕ
 height_of (Strip part) event = mark_if (is_in part event)
@@ -171,9 +182,9 @@ abbrev pub is_known : List Seen → List ℕ → Bool
 is_known lanes name = list_any (λ lane. bytes_eq lane.name name) lanes
 
 abbrev pub with_lane : List Seen → Event → List Seen
-with_lane lanes (Sent packet) = lanes
-with_lane lanes Off = lanes
+with_lane lanes (TurnBegan turn) = lanes
 with_lane lanes (Shown seen) = if is_known lanes seen.name then lanes else lanes ++ seen ∷ []
+with_lane lanes Message = lanes
 
 abbrev pub lanes_of : List Event → List Seen
 lanes_of events = fold with_lane [] events
@@ -182,9 +193,9 @@ unfoldable pub lane_rows : List Event → List Seen → List Row
 lane_rows events [] = []
 lane_rows events (lane ∷ lanes) = rows_in lane events kinds ++ lane_rows events lanes
 
--- the strip of packets, and then the lanes
+-- the strip of packets and messages, and then the lanes
 abbrev pub strip : List Row
-strip = Strip Locomotives ∷ Strip Accessories ∷ Strip Everyone ∷ Strip Idle ∷ Strip Unpowered ∷ []
+strip = Strip Locomotives ∷ Strip Accessories ∷ Strip Everyone ∷ Strip Idle ∷ Strip Unpowered ∷ Strip Messages ∷ []
 
 abbrev pub rows_of : List Event → List Row
 rows_of events = strip ++ lane_rows events (lanes_of events)

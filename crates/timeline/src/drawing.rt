@@ -1,10 +1,11 @@
 //! The picture of a run (W3C, Scalable Vector Graphics 1.1).
 ghost use Rattle.std.specs.Prelude.{◌≡◌, ◌≤◌, ◌<◌, ◌^◌, ◌*◌, ◌+◌, OnOk, length};
 ghost use Rattle.std.specs.Io.KnownBytes.{Appends};
-ghost use Rattle.timeline.specs.Picture.{axis, bottom_of, framed, legend, opening, picture_with, rows_text, title, turn_at, turn_text, turns_from};
+ghost use Rattle.timeline.specs.Picture.{axis, bottom_of, legend, opening, picture_with, moment_from, rows_text, start, title, turn_at, turn_text};
 
 use crate::event::Event;
-use crate::pieces::{room_of, turn_after, write_row, x_of};
+use crate::moment::START;
+use crate::pieces::{moment_after, room_of, write_framed, write_row, x_of};
 use crate::row::Row;
 use std::io;
 use std::io::Write;
@@ -14,15 +15,15 @@ const TOP: u64 = 52;
 
 /// Returns the number of turns in events.
 pub(crate) fn turns_in(events: &[Event]) -> u64
-    requires { length events.now < 2 ^ 32 }
-    ensures value { result ≡ turns_from 0 events.now }
-    ensures most { result ≤ length events.now }
+    requires { length events.now < 2 ^ 25 }
+    ensures value { result ≡ (moment_from start events.now).turn }
+    ensures most { result ≤ 16777216 * length events.now }
 {
-    let mut turn = 0;
+    let mut moment = START;
     for event in events {
-        turn = turn_after(turn, event);
+        moment = moment_after(moment, event);
     }
-    turn
+    moment.turn
 }
 
 /// Returns the bottom of the rows, in pixels.
@@ -61,14 +62,6 @@ fn write_title<O: Write>(output: &mut O) -> io::Result<()>
     )
 }
 
-fn write_framed<O: Write>(first: &str, number: u64, second: &str, output: &mut O) -> io::Result<()>
-    ensures { OnOk result
-        (Appends (O.contents output.old) (O.contents output.new)
-        (framed first.now number second.now)) }
-{
-    write!(output, "{first}{number}{second}")
-}
-
 /// A number above a thin line to the bottom of the rows.
 fn write_turn_at<O: Write>(x: u64, turn: u64, bottom: u64, output: &mut O) -> io::Result<()>
     ensures { OnOk result
@@ -91,7 +84,7 @@ fn write_turn_at<O: Write>(x: u64, turn: u64, bottom: u64, output: &mut O) -> io
 }
 
 fn write_turn<O: Write>(turns: u64, turn: u64, bottom: u64, output: &mut O) -> io::Result<()>
-    requires { turn < 2 ^ 33 }
+    requires { turn < 2 ^ 53 }
     ensures { OnOk result
         (Appends (O.contents output.old) (O.contents output.new) (turn_text turns turn bottom)) }
 {
@@ -100,7 +93,7 @@ fn write_turn<O: Write>(turns: u64, turn: u64, bottom: u64, output: &mut O) -> i
 }
 
 fn write_axis<O: Write>(turns: u64, bottom: u64, output: &mut O) -> io::Result<()>
-    requires { turns < 2 ^ 32 }
+    requires { turns < 2 ^ 50 }
     ensures { OnOk result
         (Appends (O.contents output.old) (O.contents output.new) (axis turns bottom)) }
 {
@@ -117,7 +110,7 @@ fn write_rows<O: Write>(
     events: &[Event],
     output: &mut O,
 ) -> io::Result<()>
-    requires few { length events.now < 2 ^ 32 }
+    requires few { length events.now < 2 ^ 25 }
     requires rows { length rows.now < 2 ^ 48 }
     ensures { OnOk result
         (Appends (O.contents output.old) (O.contents output.new)
@@ -139,10 +132,10 @@ fn write_legend<O: Write>(bottom: u64, output: &mut O) -> io::Result<()>
     let top = bottom + 28;
     writeln!(output, "<g transform=\"translate(8 {top})\">")?;
     output.write_all(
-        b"<text>Packets: tick up to a locomotive, tick down to an accessory decoder, long tick to all or to one decoder, dot idle, cross no power.</text>\n",
+        b"<text>Packets: tick up to a locomotive, tick down to an accessory decoder, long tick to all or to one decoder, dot idle, cross no power, blank idle or no power, not printed.</text>\n",
     )?;
     output.write_all(
-        b"<text y=\"16\">Speed: from 0 at the base to the last step; below it a tick where it stands by a stop, a cross by an emergency stop. Dashed: direction. Thin: functions. Dotted: outputs.</text>\n",
+        b"<text y=\"16\">Speed: in hundredths of the last step; below it a tick where it stands by a stop, a cross by an emergency stop. Dashed: direction. Thin: functions. Dotted: outputs.</text>\n",
     )?;
     output.write_all(b"</g>\n</svg>\n")
 }
@@ -155,8 +148,8 @@ pub(crate) fn write_picture<O: Write>(
     events: &[Event],
     output: &mut O,
 ) -> io::Result<()>
-    requires few { length events.now < 2 ^ 32 }
-    requires turns { turns < 2 ^ 32 }
+    requires few { length events.now < 2 ^ 25 }
+    requires turns { turns < 2 ^ 50 }
     requires rows { length rows.now < 2 ^ 48 }
     requires bottom { bottom < 2 ^ 60 }
     ensures { OnOk result

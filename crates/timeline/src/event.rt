@@ -1,14 +1,13 @@
-//! The event of a line of `station`.
-use dcc_packet::Packet;
-use trace::Seen;
+//! The event of a line of `station`, or of the log of `lbserver`.
+use trace::{Seen, Turn};
 
-/// The event of a line of `station`.
+/// The event of a line of `station`, or of the log of `lbserver`.
 #[derive(Drop)]
 pub enum Event {
-    /// A turn sent this packet.
-    Sent(Packet),
-    /// A turn sent nothing, as the power is off.
-    Off,
+    /// A turn sent a packet, or nothing, as the power is off.
+    TurnBegan(Turn),
     /// A decoder has this state.
     Shown(Seen),
+    /// A LocoNet message, or a reply.
+    Message,
 }

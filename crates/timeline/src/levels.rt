@@ -3,7 +3,7 @@ ghost use Rattle.std.specs.Prelude.{◌≡◌, ◌≤◌, ◌<◌, Some, IfSome}
 ghost use Rattle.std.specs.Str.{bytes_eq};
 ghost use Rattle.dcc_packet.specs.Reading.{instruction_of};
 ghost use Rattle.trace.specs.Node.{is_on};
-ghost use Rattle.timeline.specs.Rows.{counts, height_of, is_address, is_emergency, is_for, is_for_loco, is_for_module, is_in, is_packets, is_part, is_stop, is_switch, lane_height, mark_if, part_of, speed_height, state_height, switch_height};
+ghost use Rattle.timeline.specs.Rows.{counts, height_of, is_address, is_emergency, is_for, is_for_loco, is_for_module, is_in, is_packets, is_part, is_sent_to, is_stop, is_switch, lane_height, mark_if, part_of, part_sent, speed_height, state_height, switch_height};
 
 use crate::event::Event;
 use crate::row::{Kind, Part, Row};
@@ -34,13 +34,23 @@ fn is_part(one: Part, other: Part) -> bool
     one == other
 }
 
+/// What a turn sent.
+fn part_sent(packet: &Option<Packet>) -> Part
+    ensures { result ≡ part_sent packet.now }
+{
+    match packet {
+        Some(packet) => part_of(&read(packet)),
+        None => Part::Unpowered,
+    }
+}
+
 fn is_in(part: Part, event: &Event) -> bool
     ensures { result ≡ is_in part event.now }
 {
     match event {
-        Event::Sent(packet) => is_part(part, part_of(&read(packet))),
-        Event::Off => is_part(part, Part::Unpowered),
+        Event::TurnBegan(turn) => is_part(part, part_sent(&turn.packet)),
         Event::Shown(_) => false,
+        Event::Message => is_part(part, Part::Messages),
     }
 }
 
@@ -86,6 +96,16 @@ fn is_for(reported_state: &ReportedState, packet: &Packet) -> bool
     match reported_state {
         ReportedState::Loco { address, .. } => is_for_loco(*address, &read(packet)),
         ReportedState::Accessory { module, .. } => is_for_module(*module, &read(packet)),
+    }
+}
+
+/// Whether a turn sent a packet to the decoder of this state.
+fn is_sent_to(reported_state: &ReportedState, packet: &Option<Packet>) -> bool
+    ensures { result ≡ is_sent_to reported_state.now packet.now }
+{
+    match packet {
+        Some(packet) => is_for(reported_state, packet),
+        None => false,
     }
 }
 
@@ -186,8 +206,9 @@ pub(crate) fn lane_height(lane: &Seen, kind: Kind, event: &Event) -> Option<u64>
     ensures most { IfSome result (λ height. height ≤ 48) }
 {
     match event {
-        Event::Sent(packet) => mark_if(is_packets(kind) && is_for(&lane.reported_state, packet)),
-        Event::Off => None,
+        Event::TurnBegan(turn) => {
+            mark_if(is_packets(kind) && is_sent_to(&lane.reported_state, &turn.packet))
+        }
         Event::Shown(seen) => {
             if is_named(seen, &lane.name) {
                 state_height(kind, &seen.reported_state)
@@ -195,6 +216,7 @@ pub(crate) fn lane_height(lane: &Seen, kind: Kind, event: &Event) -> Option<u64>
                 None
             }
         }
+        Event::Message => None,
     }
 }
 

@@ -1,11 +1,12 @@
-//! `timeline`: draws the output of `station` as a picture, turn by turn: the packets, and the state
-//! of each decoder.
+//! `timeline`: draws the output of `station` as a picture, turn by turn: the packets, the messages,
+//! and the state of each decoder.
 #![tactic(auto)]
 
 mod drawing;
 mod event;
 mod levels;
 mod mark;
+mod moment;
 mod pieces;
 mod reading;
 mod row;
@@ -14,6 +15,7 @@ mod timeline;
 
 pub use event::Event;
 pub use mark::Mark;
+pub use moment::Moment;
 pub use row::{Kind, Part, Row};
 use std::process::ExitCode;
 pub use timeline::Timeline;

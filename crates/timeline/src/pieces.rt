@@ -1,32 +1,36 @@
 //! The texts of marks and rows.
-ghost use Rattle.std.specs.Prelude.{◌≡◌, ◌≤◌, ◌<◌, ◌^◌, ◌+◌, None, OnOk, codes, length};
+ghost use Rattle.std.specs.Prelude.{◌≡◌, ◌≤◌, ◌<◌, ◌^◌, ◌+◌, ◌-◌, None, OnOk, codes, length};
 ghost use Rattle.std.specs.Io.KnownBytes.{Appends};
-ghost use Rattle.timeline.specs.Picture.{address_name, base_line, head_text, is_line, is_same, joined_text, kind_name, label_open, module_name, marks_of, marks_text, name_of, next_text, part_name, part_strokes, path_open, point_text, room_of, row_text, step_text, strokes_of, style_of, turn_after, x_of};
+ghost use Rattle.timeline.specs.Picture.{address_name, base_line, framed, head_text, is_line, is_same, is_speed, joined_text, kind_name, label_open, module_name, marks_of, marks_text, moment_after, name_of, next_text, part_name, part_strokes, path_open, point_text, room_of, row_text, scale_at, scale_text, step_text, strokes_of, style_of, x_of};
 
 use crate::event::Event;
 use crate::levels::height_of;
 use crate::mark::Mark;
+use crate::moment::{Moment, START};
 use crate::row::{Kind, Part, Row};
 use dcc_packet::Address;
 use std::io;
 use std::io::Write;
-use trace::ReportedState;
+use trace::{ReportedState, turns_since};
 
-/// Returns the turn of an event, if `turn` was the turn before it.
-pub(crate) fn turn_after(turn: u64, event: &Event) -> u64
-    requires { turn < 2 ^ 32 }
-    ensures value { result ≡ turn_after turn event.now }
-    ensures most { result ≤ turn + 1 }
+/// Returns the moment of an event, if `before` was the one before it.
+pub(crate) fn moment_after(before: Moment, event: &Event) -> Moment
+    requires { before.turn < 2 ^ 52 }
+    ensures value { result ≡ moment_after before event.now }
+    ensures most { result.turn ≤ before.turn + 16777216 }
 {
     match event {
-        Event::Sent(_) | Event::Off => turn + 1,
-        Event::Shown(_) => turn,
+        Event::TurnBegan(turn) => Moment {
+            turn: before.turn + turns_since(before.number, turn.number),
+            number: turn.number,
+        },
+        Event::Shown(_) | Event::Message => before,
     }
 }
 
 /// Returns the distance of a turn from the left, in pixels.
 pub(crate) fn x_of(turns: u64, turn: u64) -> u64
-    requires { turn < 2 ^ 33 }
+    requires { turn < 2 ^ 53 }
     ensures { result ≡ x_of turns turn }
 {
     170 + turn * 1000 / turns.max(1)
@@ -53,6 +57,7 @@ fn part_strokes(part: Part) -> &'static str
         Part::Everyone => "m0-6v12",
         Part::Idle => "m-1-1h2v2h-2z",
         Part::Unpowered => "m-3-3l6 6m0-6l-6 6",
+        Part::Messages => "v-6",
     }
 }
 
@@ -124,6 +129,7 @@ fn part_name(part: Part) -> &'static str
         Part::Everyone => "to all",
         Part::Idle => "idle",
         Part::Unpowered => "power off",
+        Part::Messages => "messages",
     }
 }
 
@@ -243,14 +249,80 @@ fn write_end<O: Write>(output: &mut O) -> io::Result<()>
     output.write_all(b"\"/>\n")
 }
 
-/// Writes a row up to its marks: its name, its base and the beginning of a path.
+fn is_speed(row: &Row) -> bool
+    ensures { result ≡ is_speed row.now }
+{
+    match row {
+        Row::Lane(_, Kind::Speed) => true,
+        _ => false,
+    }
+}
+
+/// A number between two texts.
+pub(crate) fn write_framed<O: Write>(
+    first: &str,
+    number: u64,
+    second: &str,
+    output: &mut O,
+) -> io::Result<()>
+    ensures { OnOk result
+        (Appends (O.contents output.old) (O.contents output.new)
+        (framed first.now number second.now)) }
+{
+    write!(output, "{first}{number}{second}")
+}
+
+/// Thin lines at the last step of a speed and at half of it, with labels.
+fn write_scale_at<O: Write>(base: u64, output: &mut O) -> io::Result<()>
+    requires { 48 ≤ base }
+    ensures { OnOk result
+        (Appends (O.contents output.old) (O.contents output.new) (scale_at base)) }
+{
+    write_framed(
+        "<path stroke-width=\"0.3\" stroke-dasharray=\"1 3\" d=\"M170 ",
+        base - 48,
+        "H1170M170 ",
+        output,
+    )?;
+    write_framed("", base - 24, "H1170\"/>\n", output)?;
+    write_framed(
+        "<text font-size=\"8\" x=\"1174\" y=\"",
+        base - 45,
+        "\">100%</text>\n",
+        output,
+    )?;
+    write_framed(
+        "<text font-size=\"8\" x=\"1174\" y=\"",
+        base - 21,
+        "\">50%</text>\n",
+        output,
+    )
+}
+
+/// The scale of a speed; nothing for another row.
+#[tactic(auto, unfolding(crate::specs::Picture::scale_text))]
+fn write_scale<O: Write>(row: &Row, base: u64, output: &mut O) -> io::Result<()>
+    requires { 48 ≤ base }
+    ensures { OnOk result
+        (Appends (O.contents output.old) (O.contents output.new) (scale_text row.now base)) }
+{
+    if is_speed(row) {
+        write_scale_at(base, output)
+    } else {
+        Ok(())
+    }
+}
+
+/// Writes a row up to its marks: its name, its base, its scale and the beginning of a path.
 fn write_head<O: Write>(row: &Row, base: u64, output: &mut O) -> io::Result<()>
+    requires { 48 ≤ base }
     ensures { OnOk result
         (Appends (O.contents output.old) (O.contents output.new) (head_text row.now base)) }
 {
     write_label_open(base, output)?;
     write_name(row, output)?;
     write_base(base, output)?;
+    write_scale(row, base, output)?;
     write_style(style_of(row), output)
 }
 
@@ -262,20 +334,20 @@ pub(crate) fn write_row<O: Write>(
     base: u64,
     output: &mut O,
 ) -> io::Result<()>
-    requires few { length events.now < 2 ^ 32 }
+    requires few { length events.now < 2 ^ 25 }
     requires base { 48 ≤ base }
     ensures { OnOk result
         (Appends (O.contents output.old) (O.contents output.new)
         (row_text row.now turns events.now base)) }
 {
     write_head(row, base, output)?;
-    let mut turn = 0;
+    let mut moment = START;
     let mut last = None;
     for event in events {
-        turn = turn_after(turn, event);
+        moment = moment_after(moment, event);
         if let Some(height) = height_of(row, event) {
             let mark = Mark {
-                x: x_of(turns, turn),
+                x: x_of(turns, moment.turn),
                 height,
             };
             write_next(row, base, &last, mark, output)?;

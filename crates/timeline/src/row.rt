@@ -1,7 +1,7 @@
 //! The rows of a picture.
 use trace::Seen;
 
-/// The receivers of a packet, or that none was sent.
+/// The receivers of a packet, or that none was sent, or a message.
 #[derive(Clone, Copy, Debug, PartialEq, Eq)]
 pub enum Part {
     /// Sent to a locomotive decoder.
@@ -14,6 +14,8 @@ pub enum Part {
     Idle,
     /// No packet: the power is off.
     Unpowered,
+    /// No packet: a LocoNet message.
+    Messages,
 }
 
 /// What a row in the lane of a decoder shows.

@@ -1,4 +1,4 @@
-//! The rows of a picture: the strip of packets, and a lane for each decoder.
+//! The rows of a picture: the strip of packets and messages, and a lane for each decoder.
 ghost use Rattle.std.specs.Prelude.{◌≡◌, ◌≤◌, ◌+◌, ◌*◌, ◌++◌, ◌∷◌, [], IfErr, IfOk, length};
 ghost use Rattle.std.specs.Vec.{vec_len};
 ghost use Rattle.trace.specs.declared.fault.DrawFault.TheVariants.{NoMemory};
@@ -125,17 +125,18 @@ fn add_part(rows: &mut Vec<Row>, part: Part) -> Result<(), DrawFault>
     Ok(())
 }
 
-/// Adds the parts of the strip of packets.
+/// Adds the parts of the strip of packets and messages.
 fn add_strip(rows: &mut Vec<Row>) -> Result<(), DrawFault>
     ensures rows { IfOk result (λ _. rows.new.items ≡ rows.old.items ++ strip) }
-    ensures few { IfOk result (λ _. vec_len rows.new ≤ vec_len rows.old + 5) }
+    ensures few { IfOk result (λ _. vec_len rows.new ≤ vec_len rows.old + 6) }
     ensures fault { IfErr result (λ e. e ≡ NoMemory) }
 {
     add_part(rows, Part::Locomotives)?;
     add_part(rows, Part::Accessories)?;
     add_part(rows, Part::Everyone)?;
     add_part(rows, Part::Idle)?;
-    add_part(rows, Part::Unpowered)
+    add_part(rows, Part::Unpowered)?;
+    add_part(rows, Part::Messages)
 }
 
 /// Adds the rows of each lane.
@@ -154,7 +155,7 @@ fn add_lanes(rows: &mut Vec<Row>, lanes: &[Seen], events: &[Event]) -> Result<()
 /// Returns the rows of a picture, from the top.
 pub(crate) fn rows_of(alloc: Global, events: &[Event]) -> Result<Vec<Row>, DrawFault>
     ensures rows { IfOk result (λ v. v.items ≡ rows_of events.now) }
-    ensures few { IfOk result (λ v. length v.items ≤ 5 + 26 * length events.now) }
+    ensures few { IfOk result (λ v. length v.items ≤ 6 + 26 * length events.now) }
     ensures fault { IfErr result (λ e. e ≡ NoMemory) }
 {
     let lanes = lanes_of(alloc, events)?;

@@ -28,8 +28,9 @@ impl Drawing for Timeline {
         FilterText {
             name: "timeline",
             about: "Draws what station prints as a picture (SVG), turn by turn",
-            details: "It reads the packets and the states of decoders that station prints: lines that begin with track and node. It skips the other lines.\n\nExample: station replay --roster layout.toml < session.script | timeline > session.svg",
+            details: "It reads the packets, messages and states of decoders that station and lbserver --track print: lines that begin with track, message, reply and node. It skips the other lines.\n\nExample: station replay --roster layout.toml < session.script | timeline > session.svg",
             flag: None,
+            second_flag: None,
         }
     }
 
