@@ -1,5 +1,5 @@
 -- The drawing, half-bit after half-bit and packet after packet.
-use Rattle.std.proofs.Common.{◌≡◌, ℕ, ◌+◌, ◌*◌, ◌≤◌, Bool, true, false, not, sum, List, [], ◌∷◌, ◌++◌, map, replicate, length, Option, refl, ap, ap₂, sym, subst, ◌∙◌, append_assoc, arith}
+use Rattle.std.proofs.Common.{◌≡◌, ℕ, zero, suc, ◌+◌, ◌-◌, ◌*◌, ◌<◌, ◌≤◌, Bool, true, false, not, sum, List, [], ◌∷◌, ◌++◌, map, replicate, length, Option, Some, None, refl, ap, ap₂, sym, subst, ◌∙◌, append_assoc, arith}
 use Rattle.std.proofs.lemmas.List.{append-nil}
 use Rattle.std.proofs.lemmas.List.Sums.{sum_by-append, sum_by-cons}
 use Rattle.std.proofs.lemmas.Bool.Decides.{nat_tests}
@@ -9,7 +9,10 @@ use Rattle.std.specs.Prelude.{Result, Ok, Err, OnOk}
 use Rattle.dcc_packet.specs.Packet.{IsPacket}
 use Rattle.dcc_packet.specs.Wave.{bits_of, doubled}
 use Rattle.half_bits.specs.Halves.{halves_of, micros}
-use Rattle.track_signal.specs.Dump.{Change, change_text, changes_from, changes_text, dump_of, halves_in, header, stamp}
+use Rattle.dcc_packet.specs.Sent.{idle_bytes}
+use Rattle.trace.specs.Traffic.{turns_since}
+use Rattle.trace.specs.declared.turn.Turn.{Turn}
+use Rattle.track_signal.specs.Dump.{Change, change_text, changes_from, changes_text, dump_of, halves_in, header, idle_halves, sent_halves, stamp, turn_halves}
 
 text-append : (changes more : List Change) → changes_text (changes ++ more) ≡ changes_text changes ++ changes_text more
 text-append [] more = refl
@@ -98,47 +101,111 @@ begins_high : (packet : List ℕ) (time : ℕ) (rest : List ℕ) → changes_fro
 unfolding halves_of
 begins_high packet time rest = turned (replicate 14 true ++ (bits_of packet ++ true ∷ [])) time rest
 
--- Of a dump: the text written, and the text of the remaining packets, are together all but the last
--- time stamp.
-pub record HasDumped (all : List (List ℕ)) (time : ℕ) (left : List (List ℕ)) (old now : Option (List ℕ)) : Type 0 where
+-- Halves after which the rails are high again, as after each packet.
+abbrev pub EndsLow : List ℕ → Type 0
+EndsLow halves = (time : ℕ) (rest : List ℕ) → changes_from time true (halves ++ rest) ≡ changes_from time true halves ++ changes_from (time + sum halves) true rest
+
+none_low : EndsLow []
+none_low time rest = ap (λ t. changes_from t true rest) (omega arith)
+
+both_low : (first second : List ℕ) → EndsLow first → EndsLow second → EndsLow (first ++ second)
+both_low first second low then_low time rest =
+    let after : ℕ = time + sum first in
+    let times : after + sum second ≡ time + sum (first ++ second) = omega (arith, sum-append first second) in
+    ap (changes_from time true) (append_assoc first second rest)
+    ∙ low time (second ++ rest)
+    ∙ ap (λ (cs : List Change). changes_from time true first ++ cs) (then_low after rest)
+    ∙ sym (append_assoc (changes_from time true first) (changes_from after true second) (changes_from (after + sum second) true rest))
+    ∙ ap (λ (cs : List Change). cs ++ changes_from (after + sum second) true rest) (sym (low time second))
+    ∙ ap (λ (t : ℕ). changes_from time true (first ++ second) ++ changes_from t true rest) times
+
+pub packet_low : (packet : List ℕ) → EndsLow (halves_of packet)
+packet_low packet = begins_high packet
+
+all_low : (count : ℕ) (packet : List ℕ) → EndsLow (halves_in (replicate count packet))
+all_low zero packet = none_low
+all_low (suc count) packet = both_low (halves_of packet) (halves_in (replicate count packet)) (packet_low packet) (all_low count packet)
+
+pub idle_low : (count : ℕ) → EndsLow (idle_halves count)
+unfolding idle_halves
+idle_low count = all_low count idle_bytes
+
+pub sent_low : (packet : Option (List ℕ)) → EndsLow (sent_halves packet)
+sent_low None = none_low
+sent_low (Some packet) = packet_low packet
+
+-- one idle packet, and the others
+pub idle_first : (left fewer : ℕ) → 0 < left → fewer ≡ left - 1 → idle_halves left ≡ halves_of idle_bytes ++ idle_halves fewer
+unfolding idle_halves
+idle_first zero fewer some is = absurd (omega (arith, some))
+idle_first (suc left) fewer some is =
+    let same : left ≡ fewer = omega (arith, is) in
+    ap (λ (n : ℕ). halves_of idle_bytes ++ halves_in (replicate n idle_bytes)) same
+
+pub no_idle : (left : ℕ) → left ≤ 0 → idle_halves left ≡ []
+unfolding idle_halves
+no_idle zero none = refl
+no_idle (suc left) none = absurd (omega (arith, none))
+
+-- Of packets after a text: the text written, and that of the remaining half-bits, are together the
+-- whole.
+pub record HasDumped (before : List ℕ) (start : ℕ) (all : List ℕ) (time : ℕ) (left : List ℕ) (old now : Option (List ℕ)) : Type 0 where
   pub written : List ℕ
   pub appended : Appends old now written
-  pub texts : written ++ changes_text (changes_from time true (halves_in left)) ≡ header ++ changes_text (changes_from 0 true (halves_in all))
-  pub ends : time + sum (halves_in left) ≡ sum (halves_in all)
+  pub texts : written ++ changes_text (changes_from time true left) ≡ before ++ changes_text (changes_from start true all)
+  pub ends : time + sum left ≡ start + sum all
 
-pub dumped_none : (all : List (List ℕ)) (old now : Option (List ℕ)) → Appends old now header → HasDumped all 0 all old now
-dumped_none all old now begun = record { written = header; appended = begun; texts = refl; ends = omega arith }
+pub dumped_none : (before : List ℕ) (start : ℕ) (all : List ℕ) (old now : Option (List ℕ)) → Appends old now before → HasDumped before start all start all old now
+dumped_none before start all old now begun = record { written = before; appended = begun; texts = refl; ends = refl }
 
-pub dumped_more : (all : List (List ℕ)) (time : ℕ) (left : List (List ℕ)) (packet : List ℕ) (rest : List (List ℕ)) (end : ℕ) (old now new : Option (List ℕ)) → HasDumped all time left old now → left ≡ packet ∷ rest
-    → Appends now new (changes_text (changes_from time true (halves_of packet))) → end ≡ time + sum (halves_of packet) → HasDumped all end rest old new
-dumped_more all time left packet rest end old now new has more here at =
-    let first : List ℕ = changes_text (changes_from time true (halves_of packet)) in
-    let halves : List ℕ = halves_in rest in
-    let after : ℕ = time + sum (halves_of packet) in
-    let parts : changes_text (changes_from time true (halves_of packet ++ halves)) ≡ first ++ changes_text (changes_from after true halves) =
-    ap changes_text (begins_high packet time halves) ∙ text-append (changes_from time true (halves_of packet)) (changes_from after true halves) in
-    let sums : sum (halves_in left) ≡ sum (halves_of packet) + sum halves = ap (λ (ps : List (List ℕ)). sum (halves_in ps)) more ∙ sum-append (halves_of packet) halves in
-    subst (λ (t : ℕ). HasDumped all t rest old new) (sym at) (record {
+pub dumped_more : (before : List ℕ) (start : ℕ) (all : List ℕ) (time : ℕ) (left halves rest : List ℕ) (end : ℕ) (old now new : Option (List ℕ)) → HasDumped before start all time left old now → left ≡ halves ++ rest
+    → EndsLow halves → Appends now new (changes_text (changes_from time true halves)) → end ≡ time + sum halves → HasDumped before start all end rest old new
+dumped_more before start all time left halves rest end old now new has more low here at =
+    let first : List ℕ = changes_text (changes_from time true halves) in
+    let after : ℕ = time + sum halves in
+    let parts : changes_text (changes_from time true (halves ++ rest)) ≡ first ++ changes_text (changes_from after true rest) =
+    ap changes_text (low time rest) ∙ text-append (changes_from time true halves) (changes_from after true rest) in
+    let sums : sum left ≡ sum halves + sum rest = ap sum more ∙ sum-append halves rest in
+    subst (λ (t : ℕ). HasDumped before start all t rest old new) (sym at) (record {
       written = has.written ++ first;
       appended = Appends-trans old now new has.written first has.appended here;
-      texts = append_assoc has.written first (changes_text (changes_from after true halves))
+      texts = append_assoc has.written first (changes_text (changes_from after true rest))
           ∙ ap (λ (bs : List ℕ). has.written ++ bs) (sym parts)
-          ∙ ap (λ (ps : List (List ℕ)). has.written ++ changes_text (changes_from time true (halves_in ps))) (sym more)
+          ∙ ap (λ (hs : List ℕ). has.written ++ changes_text (changes_from time true hs)) (sym more)
           ∙ has.texts;
       ends = omega (arith, has.ends, sums);
     })
 
-ended : (all : List (List ℕ)) (time : ℕ) (left : List (List ℕ)) (old now new : Option (List ℕ)) → HasDumped all time left old now → left ≡ [] → Appends now new (stamp time) → Appends old new (dump_of all)
-ended all time left old now new has none last =
-    let at : time ≡ sum (halves_in all) =
-    (let nothing : sum (halves_in left) ≡ 0 = ap (λ (ps : List (List ℕ)). sum (halves_in ps)) none in omega (arith, has.ends, nothing)) in
-    let changes : List ℕ = changes_text (changes_from 0 true (halves_in all)) in
-    let before : has.written ≡ header ++ changes =
-    sym (append-nil has.written) ∙ ap (λ (ps : List (List ℕ)). has.written ++ changes_text (changes_from time true (halves_in ps))) (sym none) ∙ has.texts in
-    let text : has.written ++ stamp time ≡ dump_of all =
-    ap₂ (λ (bs : List ℕ) (t : ℕ). bs ++ stamp t) before at ∙ append_assoc header changes (stamp (sum (halves_in all))) in
-    subst (λ (bs : List ℕ). Appends old new bs) text (Appends-trans old now new has.written (stamp time) has.appended last)
+pub dumped_end : (before : List ℕ) (start : ℕ) (all : List ℕ) (time : ℕ) (left : List ℕ) (old now : Option (List ℕ)) → HasDumped before start all time left old now → left ≡ [] → time ≡ start + sum all
+dumped_end before start all time left old now has none =
+    let nothing : sum left ≡ 0 = ap sum none in
+    omega (arith, has.ends, nothing)
 
-pub dumped_all : {A E : Type 0} (r : Result A E) (all : List (List ℕ)) (time : ℕ) (left : List (List ℕ)) (old now new : Option (List ℕ)) → HasDumped all time left old now → left ≡ [] → OnOk r (Appends now new (stamp time)) → OnOk r (Appends old new (dump_of all))
-dumped_all (Ok a) all time left old now new has none last = ended all time left old now new has none last
-dumped_all (Err e) all time left old now new has none last = tt
+pub dumped_whole : (before : List ℕ) (start : ℕ) (all : List ℕ) (time : ℕ) (left : List ℕ) (old now : Option (List ℕ)) → HasDumped before start all time left old now → left ≡ [] → Appends old now (before ++ changes_text (changes_from start true all))
+dumped_whole before start all time left old now has none =
+    subst (λ (bs : List ℕ). Appends old now bs) (sym (append-nil has.written) ∙ ap (λ (hs : List ℕ). has.written ++ changes_text (changes_from time true hs)) (sym none) ∙ has.texts) has.appended
+
+ended : (turns : List Turn) (time : ℕ) (left : List ℕ) (old now new : Option (List ℕ)) → HasDumped header 0 (turn_halves 0 turns) time left old now → left ≡ [] → Appends now new (stamp time) → Appends old new (dump_of turns)
+ended turns time left old now new has none last =
+    let all : List ℕ = turn_halves 0 turns in
+    let at : time ≡ sum all = omega (arith, dumped_end header 0 all time left old now has none) in
+    let changes : List ℕ = changes_text (changes_from 0 true all) in
+    let text : (header ++ changes) ++ stamp time ≡ dump_of turns =
+    append_assoc header changes (stamp time) ∙ ap (λ (t : ℕ). header ++ (changes ++ stamp t)) at in
+    subst (λ (bs : List ℕ). Appends old new bs) text (Appends-trans old now new (header ++ changes) (stamp time) (dumped_whole header 0 all time left old now has none) last)
+
+pub dumped_all : {A E : Type 0} (r : Result A E) (turns : List Turn) (time : ℕ) (left : List ℕ) (old now new : Option (List ℕ)) → HasDumped header 0 (turn_halves 0 turns) time left old now → left ≡ [] → OnOk r (Appends now new (stamp time)) → OnOk r (Appends old new (dump_of turns))
+dumped_all (Ok a) turns time left old now new has none last = ended turns time left old now new has none last
+dumped_all (Err e) turns time left old now new has none last = tt
+
+-- The turns that are left to be drawn.
+
+pub turns_more : (last : ℕ) (left : List Turn) (turn : Turn) (rest : List Turn) (between : ℕ) → left ≡ turn ∷ rest → between ≡ turns_since last turn.number - 1
+    → turn_halves last left ≡ idle_halves between ++ (sent_halves turn.packet ++ turn_halves turn.number rest)
+unfolding turn_halves
+turns_more last left turn rest between is count =
+    ap (turn_halves last) is ∙ ap (λ (n : ℕ). idle_halves n ++ (sent_halves turn.packet ++ turn_halves turn.number rest)) (sym count)
+
+pub turns_end : (last : ℕ) (left : List Turn) → left ≡ [] → turn_halves last left ≡ []
+unfolding turn_halves
+turns_end last left none = ap (turn_halves last) none

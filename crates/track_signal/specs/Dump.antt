@@ -1,8 +1,11 @@
 -- A value change dump of the rails (IEEE 1364, 18.2): a header, then time stamps in microseconds,
 -- each with the value that the one wire has from then on.
-use Rattle.std.specs.Prelude.{ℕ, ◌+◌, Bool, true, not, sum, List, [], ◌∷◌, ◌++◌, codes, if◌then◌else◌}
+use Rattle.std.specs.Prelude.{ℕ, ◌+◌, ◌-◌, Bool, true, not, sum, List, [], ◌∷◌, ◌++◌, Option, Some, None, codes, replicate, if◌then◌else◌}
 use Rattle.std.specs.Fmt.{decimal}
+use Rattle.dcc_packet.specs.Sent.{idle_bytes}
 use Rattle.half_bits.specs.Halves.{halves_of}
+use Rattle.trace.specs.Traffic.{turns_since}
+use Rattle.trace.specs.declared.turn.Turn.{Turn}
 
 -- the unit of time, and the wire, whose short name is `!` (18.2.3; the names are this project's
 -- own)
@@ -39,6 +42,20 @@ abbrev pub halves_in : List (List ℕ) → List ℕ
 halves_in [] = []
 halves_in (packet ∷ packets) = halves_of packet ++ halves_in packets
 
--- the dump of packets, from time 0 on and high at first (own); the last time stamp is their end
-abbrev pub dump_of : List (List ℕ) → List ℕ
-dump_of packets = header ++ changes_text (changes_from 0 true (halves_in packets)) ++ stamp (sum (halves_in packets))
+-- those of this many idle packets
+unfoldable pub idle_halves : (count : ℕ) → List ℕ
+idle_halves count = halves_in (replicate count idle_bytes)
+
+-- those of what a turn sent
+abbrev pub sent_halves : Option (List ℕ) → List ℕ
+sent_halves None = []
+sent_halves (Some packet) = halves_of packet
+
+-- Those of turns, after a turn with the number `last`. Turns between them are drawn as idle.
+unfoldable pub turn_halves : (last : ℕ) → List Turn → List ℕ
+turn_halves last [] = []
+turn_halves last (turn ∷ turns) = idle_halves (turns_since last turn.number - 1) ++ (sent_halves turn.packet ++ turn_halves turn.number turns)
+
+-- the dump of turns, from time 0 on and high at first (own); the last time stamp is their end
+abbrev pub dump_of : List Turn → List ℕ
+dump_of turns = header ++ changes_text (changes_from 0 true (turn_halves 0 turns)) ++ stamp (sum (turn_halves 0 turns))

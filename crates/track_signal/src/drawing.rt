@@ -4,15 +4,15 @@ ghost use Rattle.std.specs.Io.KnownBytes.{Appends};
 ghost use Rattle.half_bits.specs.Halves.{halves_of};
 ghost use Rattle.trace.specs.Fault.{is_unwritten};
 ghost use Rattle.trace.specs.declared.fault.DrawFault.TheVariants.{NoMemory, Output};
-ghost use Rattle.track_signal.specs.Dump.{change_text, changes_from, changes_text, dump_of, halves_in, stamp};
+ghost use Rattle.track_signal.specs.Dump.{change_text, changes_from, changes_text, dump_of, idle_halves, sent_halves, stamp};
 
-use dcc_packet::Packet;
+use dcc_packet::{Packet, idle};
 use half_bits::halves;
 use input_text::{Output, put_all};
 use std::alloc::Global;
 use std::io;
 use std::io::Write;
-use trace::DrawFault;
+use trace::{DrawFault, Turn, turns_since};
 
 /// The header before the first time stamp: the unit of time and the one wire.
 const HEADER: &[u8] =
@@ -93,16 +93,65 @@ fn write_end<O: Output>(time: u64, text: &mut Vec<u8>, output: &mut O) -> Result
     Ok(put_all(output, text.as_slice())?)
 }
 
-/// Draws consecutive packets, from the header to the time of their end.
-pub(crate) fn draw_packets<O: Output>(
-    alloc: Global,
-    packets: &[Packet],
+/// Draws this many idle packets. Returns the time of their end.
+fn write_idle<O: Output>(
+    count: u64,
+    start: u64,
+    text: &mut Vec<u8>,
     output: &mut O,
-) -> Result<(), DrawFault>
-    requires few { length packets.now ≤ 16777216 }
+) -> Result<u64, DrawFault>
+    requires end { start + 13800 * count < 2 ^ 64 }
     requires writes { O.failed output.old ≡ false }
     ensures text { OnOk result
-        (Appends (O.held output.old) (O.held output.new) (dump_of packets.now)) }
+        (Appends (O.held output.old) (O.held output.new)
+        (changes_text (changes_from start true (idle_halves count)))) }
+    ensures end { IfOk result (λ end. end ≡ start + sum (idle_halves count)) }
+    ensures soon { IfOk result (λ end. end ≤ start + 13800 * count) }
+    ensures fault { IfErr result (λ e. (e ≡ Output) ⊎ (e ≡ NoMemory)) }
+    ensures unwritten { O.failed output.new ≡ is_unwritten result }
+{
+    let mut time = start;
+    let mut left = count;
+    while left > 0 {
+        time = write_packet(&idle(), time, text, output)?;
+        left -= 1;
+    }
+    Ok(time)
+}
+
+/// Draws what a turn sent. Returns the time of its end; a turn that sent nothing takes no time.
+fn write_sent<O: Output>(
+    packet: &Option<Packet>,
+    start: u64,
+    text: &mut Vec<u8>,
+    output: &mut O,
+) -> Result<u64, DrawFault>
+    requires end { start + 13800 < 2 ^ 64 }
+    requires writes { O.failed output.old ≡ false }
+    ensures text { OnOk result
+        (Appends (O.held output.old) (O.held output.new)
+        (changes_text (changes_from start true (sent_halves packet.now)))) }
+    ensures end { IfOk result (λ end. end ≡ start + sum (sent_halves packet.now)) }
+    ensures soon { IfOk result (λ end. end ≤ start + 13800) }
+    ensures fault { IfErr result (λ e. (e ≡ Output) ⊎ (e ≡ NoMemory)) }
+    ensures unwritten { O.failed output.new ≡ is_unwritten result }
+{
+    match packet {
+        Some(packet) => write_packet(packet, start, text, output),
+        None => Ok(start),
+    }
+}
+
+/// Draws turns, from the header to the time of their end; turns between them as idle.
+pub(crate) fn draw_turns<O: Output>(
+    alloc: Global,
+    turns: &[Turn],
+    output: &mut O,
+) -> Result<(), DrawFault>
+    requires few { length turns.now ≤ 16777216 }
+    requires writes { O.failed output.old ≡ false }
+    ensures text { OnOk result
+        (Appends (O.held output.old) (O.held output.new) (dump_of turns.now)) }
     ensures fault { IfErr result (λ e. (e ≡ Output) ⊎ (e ≡ NoMemory)) }
     ensures unwritten { O.failed output.new ≡ is_unwritten result }
 {
@@ -111,8 +160,12 @@ pub(crate) fn draw_packets<O: Output>(
     };
     put_all(output, HEADER)?;
     let mut time = 0;
-    for packet in packets {
-        time = write_packet(packet, time, &mut text, output)?;
+    let mut last = 0;
+    for turn in turns {
+        let between = turns_since(last, turn.number) - 1;
+        let began = write_idle(between, time, &mut text, output)?;
+        time = write_sent(&turn.packet, began, &mut text, output)?;
+        last = turn.number;
     }
     write_end(time, &mut text, output)
 }

@@ -3,18 +3,17 @@ ghost use Rattle.std.specs.Prelude.{false};
 ghost use Rattle.trace.specs.Traffic.{Parses};
 ghost use Rattle.track_signal.specs.Dump.{dump_of};
 
-use crate::drawing::draw_packets;
-use dcc_packet::Packet;
+use crate::drawing::draw_turns;
 use filter::FilterText;
 use input_text::Output;
 use std::alloc::Global;
-use trace::{BadLine, DrawFault, Drawing, packet_in};
+use trace::{BadLine, DrawFault, Drawing, Turn, turn_in};
 
 /// The signal on the rails. It is written packet by packet.
 pub struct TrackSignal;
 
 impl Drawing for TrackSignal {
-    type Item = Packet;
+    type Item = Turn;
 
     ghost parses = { Parses };
 
@@ -26,8 +25,9 @@ impl Drawing for TrackSignal {
         FilterText {
             name: "track_signal",
             about: "Writes the signal on the rails as a value change dump (VCD) for wave viewers",
-            details: "It reads the packets that station prints: lines that begin with track. It skips the other lines.\n\nExample: station replay --roster layout.toml < session.script | track_signal > session.vcd",
+            details: "It reads the packets that station and lbserver --track print: lines that begin with track. It skips the other lines.\n\nExample: station replay --roster layout.toml < session.script | track_signal > session.vcd",
             flag: None,
+            second_flag: None,
         }
     }
 
@@ -35,16 +35,16 @@ impl Drawing for TrackSignal {
         "track line"
     }
 
-    fn read(&self, line: &[u8]) -> Result<Option<Packet>, BadLine> {
-        packet_in(line).map_err(|_| BadLine)
+    fn read(&self, line: &[u8]) -> Result<Option<Turn>, BadLine> {
+        turn_in(line).map_err(|_| BadLine)
     }
 
     fn draw<O: Output>(
         &self,
         alloc: Global,
-        packets: &[Packet],
+        turns: &[Turn],
         output: &mut O,
     ) -> Result<(), DrawFault> {
-        draw_packets(alloc, packets, output)
+        draw_turns(alloc, turns, output)
     }
 }

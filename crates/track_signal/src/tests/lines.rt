@@ -39,7 +39,7 @@ fn drawn(alloc: Global, bits: &[u8]) -> Result<Vec<u8>, Fail> {
 
 #[test]
 fn packets_are_drawn(rt: HostRuntime) -> Result<(), Fail> {
-    let rows: [(&[u8], &[u8]); 9] = [
+    let rows: [(&[u8], &[u8]); 10] = [
         (b"", b""),
         (b"track 1 off\n", b""),
         (b"listening 127.0.0.1:5550\n\nreply 0 B4 3F 00 74\n", b""),
@@ -52,6 +52,11 @@ fn packets_are_drawn(rt: HostRuntime) -> Result<(), Fail> {
         (b"track 18446744073709551615 FF 00 FF\n", IDLE),
         (
             b"track 1 03 3F C0 FC\nreply 0 B4 3F 00 74\ntrack 2 FF 00 FF\n",
+            DRIVE_AND_IDLE,
+        ),
+        // `lbserver` prints neither idle packets nor turns without power.
+        (
+            b"track 70 03 3F C0 FC\nmessage 83 7C  track power on\ntrack 72 off\n",
             DRIVE_AND_IDLE,
         ),
     ];
@@ -75,7 +80,8 @@ fn two_packets_end_at_their_sum(rt: HostRuntime) {
 
 #[test]
 fn lines_with_a_fault_are_refused(rt: HostRuntime) -> Result<(), Fail> {
-    let rows: [(&[u8], u32); 20] = [
+    let rows: [(&[u8], u32); 21] = [
+        (b"log: 1,234 lines left out\n", 1),
         (b"track", 1),
         (b"track ", 1),
         (b"track 1", 1),
