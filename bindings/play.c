@@ -4,7 +4,9 @@
  *
  * play numbers: prints its kinds and statuses.
  *
- * play texts: prints what it says of each status, and of each fault of a roster. */
+ * play texts: prints what it says of each status, and of each fault of a roster.
+ *
+ * play messages: prints one message of each kind, and what is refused. */
 #include <stdio.h>
 #include <stdlib.h>
 #include <string.h>
@@ -174,6 +176,42 @@ static void print_texts(void) {
         printf("%u %s\n", fault, station_fault_text(fault));
 }
 
+/* A message, or that it was refused and left as it was. */
+static void print_message(const char *name, bool done, const station_message *message) {
+    printf("%s", name);
+    if (!done)
+        printf(" refused");
+    for (unsigned i = 0; i < message->size; i++)
+        printf(" %02X", message->bytes[i]);
+    printf("\n");
+}
+
+static void print_messages(void) {
+    const uint8_t fields[] = { 1, 0x33, 3, 64, 0x20, 7, 0, 0, 1, 0, 0 };
+    const uint8_t body[] = { 0xED, 0x0B, 0x7F, 0x30, 0x01, 0x0B, 0x23, 0, 0, 0 }, no_body[] = { 0xA0, 1 };
+    station_message sent = { 0 };
+    station_opc_gpoff(&sent), print_message("GPOFF", true, &sent);
+    station_opc_gpon(&sent), print_message("GPON", true, &sent);
+    station_opc_idle(&sent), print_message("IDLE", true, &sent);
+    print_message("LOCO_SPD", station_opc_loco_spd(1, 64, &sent), &sent);
+    print_message("LOCO_SPD", station_opc_loco_spd(1, 128, &sent), &sent);
+    print_message("LOCO_DIRF", station_opc_loco_dirf(1, 0x30, &sent), &sent);
+    print_message("LOCO_SND", station_opc_loco_snd(1, 5, &sent), &sent);
+    print_message("SW_REQ", station_opc_sw_req(1, true, true, &sent), &sent);
+    print_message("SW_REQ", station_opc_sw_req(2048, false, true, &sent), &sent);
+    print_message("SW_REQ", station_opc_sw_req(0, true, true, &sent), &sent);
+    print_message("SW_REQ", station_opc_sw_req(2049, true, true, &sent), &sent);
+    print_message("SLOT_STAT1", station_opc_slot_stat1(1, 0x13, &sent), &sent);
+    print_message("MOVE_SLOTS", station_opc_move_slots(1, 2, &sent), &sent);
+    print_message("RQ_SL_DATA", station_opc_rq_sl_data(123, &sent), &sent);
+    print_message("LOCO_ADR", station_opc_loco_adr(10239, &sent), &sent);
+    print_message("LOCO_ADR", station_opc_loco_adr(10240, &sent), &sent);
+    print_message("WR_SL_DATA", station_opc_wr_sl_data(fields, sizeof fields, &sent), &sent);
+    print_message("WR_SL_DATA", station_opc_wr_sl_data(fields, sizeof fields - 1, &sent), &sent);
+    print_message("MESSAGE", station_message_of(body, sizeof body, &sent), &sent);
+    print_message("MESSAGE", station_message_of(no_body, sizeof no_body, &sent), &sent);
+}
+
 /* What is wrong with a roster. */
 static const char *fault_of(const char *roster, size_t size) {
     uint8_t fault = 0, node = 0;
@@ -194,8 +232,12 @@ int main(int argc, char **argv) {
         print_texts();
         return 0;
     }
+    if (argc == 2 && strcmp(argv[1], "messages") == 0) {
+        print_messages();
+        return 0;
+    }
     if (argc != 4) {
-        fprintf(stderr, "usage: play ROSTER SCRIPT LINES | play sizes | play numbers | play texts\n");
+        fprintf(stderr, "usage: play ROSTER SCRIPT LINES | play sizes | play numbers | play texts | play messages\n");
         return 2;
     }
     size_t size;

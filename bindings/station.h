@@ -167,6 +167,39 @@ bool station_running(station_layout *layout, size_t i, station_motion *motion);
  * Owed: nothing but the above. */
 bool station_outputs(station_layout *layout, size_t i, uint8_t *outputs);
 
+/* A LocoNet message of 2 to 14 bytes, the check byte the last. The rest of `bytes` is zero. */
+typedef struct station_message {
+    uint8_t size, bytes[14];
+} station_message;
+
+/* Writes any message: its body, which is all of it but the check byte. Returns false, and writes nothing, unless it is
+ * an opcode and as many bytes below 128 as it requires, and the message has at most 14 bytes.
+ * Owed: `body` points to `count` bytes. */
+bool station_message_of(const uint8_t *body, size_t count, station_message *message);
+
+/* The messages of layout programs, by their opcodes. A function that returns a bool returns false, and writes nothing,
+ * if a byte is above 127 or a number out of its range. Speed 0 stops, 1 stops at once, and 2 to 127 are steps 1 to 126.
+ * Bit 5 of DIRF is reverse, bit 4 F0, bits 0 to 3 F1 to F4; bits 0 to 3 of SND are F5 to F8. Turnouts are 1 to 2048,
+ * addresses 1 to 10239. The same slot twice is taken into use, destination 0 dispatches it, and source 0 takes the
+ * dispatched one.
+ * Owed: nothing but the above. */
+void station_opc_gpoff(station_message *message);
+void station_opc_gpon(station_message *message);
+void station_opc_idle(station_message *message);
+bool station_opc_loco_spd(uint8_t slot, uint8_t spd, station_message *message);
+bool station_opc_loco_dirf(uint8_t slot, uint8_t dirf, station_message *message);
+bool station_opc_loco_snd(uint8_t slot, uint8_t snd, station_message *message);
+bool station_opc_sw_req(uint16_t turnout, bool closed, bool on, station_message *message);
+bool station_opc_slot_stat1(uint8_t slot, uint8_t stat, station_message *message);
+bool station_opc_move_slots(uint8_t src, uint8_t dest, station_message *message);
+bool station_opc_rq_sl_data(uint8_t slot, station_message *message);
+bool station_opc_loco_adr(uint16_t address, station_message *message);
+
+/* OPC_WR_SL_DATA. The 11 fields are slot, STAT1, ADR, SPD, DIRF, TRK, SS2, ADR2, SND, ID1 and ID2; false if there are
+ * more or less.
+ * Owed: `fields` points to `count` bytes. */
+bool station_opc_wr_sl_data(const uint8_t *fields, size_t count, station_message *message);
+
 #ifdef __cplusplus
 }
 #endif

@@ -6,8 +6,11 @@ use Rattle.station_core.specs.declared.call.Step.TheVariants.{Quiet, Reply, Pack
 use Rattle.station_c.specs.declared.answer.Answer.{Answer}
 
 -- these bytes, followed by zeros up to 14
+abbrev pub padded : List ℕ → List ℕ
+padded bytes = bytes ++ replicate (14 - length bytes) 0
+
 abbrev pub filled : (kind : ℕ) → List ℕ → Answer
-filled kind bytes = record { kind = kind; size = length bytes; bytes = bytes ++ replicate (14 - length bytes) 0 }
+filled kind bytes = record { kind = kind; size = length bytes; bytes = padded bytes }
 
 -- nothing, the bytes of a reply, those of a packet, or a turn without power
 abbrev pub answered : Step → Answer

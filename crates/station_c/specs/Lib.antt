@@ -4,4 +4,5 @@ pub mod Event
 pub mod Fault
 pub mod Kept
 pub mod Layout
+pub mod Messages
 pub mod Motion

@@ -1,25 +1,14 @@
 //! The answers to events, for C.
 ghost use Rattle.std.specs.Prelude.{◌≡◌, ◌≤◌, length};
 ghost use Rattle.layout_core.specs.Served.{IsSendableAnswer};
-ghost use Rattle.station_c.specs.Answer.{answered, filled};
+ghost use Rattle.station_c.specs.Answer.{answered, filled, padded};
 
+use crate::kind::{OFF, PACKET, QUIET, REPLY};
 use ln_ops::to_msg;
 use station_core::Step;
 
-/// The most bytes of an answer: those of slot data.
-const MOST_BYTES: usize = 14;
-
-/// No answer.
-const QUIET: u8 = 0;
-
-/// A reply, on the line of the byte.
-const REPLY: u8 = 1;
-
-/// A packet, on the track.
-const PACKET: u8 = 2;
-
-/// A turn while the track has no power.
-const OFF: u8 = 3;
+/// The most bytes of an answer or a message: those of slot data.
+pub(crate) const MOST_BYTES: usize = 14;
 
 /// The answer to one event.
 #[repr(C)]
@@ -51,11 +40,19 @@ fn filled(kind: u8, from: &[u8]) -> Answer
     requires { length from.now ≤ 14 }
     ensures { result ≡ filled kind from.now }
 {
-    let mut bytes = [0; MOST_BYTES];
-    bytes[..from.len()].copy_from_slice(from);
     Answer {
         kind,
         size: from.len() as u8,
-        bytes,
+        bytes: padded(from),
     }
+}
+
+/// Returns these bytes, followed by zeros.
+pub(crate) fn padded(from: &[u8]) -> [u8; MOST_BYTES]
+    requires { length from.now ≤ 14 }
+    ensures { result ≡ padded from.now }
+{
+    let mut bytes = [0; MOST_BYTES];
+    bytes[..from.len()].copy_from_slice(from);
+    bytes
 }

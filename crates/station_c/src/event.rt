@@ -3,16 +3,8 @@ ghost use Rattle.std.specs.Prelude.{◌≡◌};
 ghost use Rattle.std.specs.List.{list_all};
 ghost use Rattle.station_c.specs.Event.{event_of, is_one};
 
+use crate::kind::{BYTE, NOISE, TURN};
 use layout_core::Event;
-
-/// A byte is received on a line.
-const BYTE: u8 = 0;
-
-/// The track has room for a packet.
-const TURN: u8 = 1;
-
-/// The receiver of one decoder hears a half-bit that belongs to no packet.
-const NOISE: u8 = 2;
 
 /// One event of a layout. Fields that do not belong to its kind are ignored.
 #[repr(C)]

@@ -1,7 +1,8 @@
 //! A layout for programs in C, and in languages that call C.
 //!
 //! A program keeps a [`Layout`], zeroed at first. [`station_new`] makes the layout, [`station_run`]
-//! runs a list of events, and [`station_free`] ends it. Each function is exported under its name;
+//! runs a list of events, and [`station_free`] ends it. `station_opc_..` write the messages that layout programs send.
+//! Each function is exported under its name;
 //! `bindings/station.h` states the obligations of the caller.
 #![tactic(auto)]
 
@@ -22,10 +23,13 @@ ghost use Rattle.station_c.specs.Layout.{IsFaultyNode, IsNew, IsStatus, IsUnchan
 ghost use Rattle.station_c.specs.Motion.{driven};
 
 mod answer;
+mod builders;
 mod decoder;
 mod event;
 mod kept_world;
+mod kind;
 mod layout;
+mod message;
 mod motion;
 mod raw;
 mod run;
@@ -34,6 +38,12 @@ mod tests;
 
 pub use answer::Answer;
 use answer::answered;
+pub use builders::{
+    station_message_of, station_opc_gpoff, station_opc_gpon, station_opc_idle,
+    station_opc_loco_adr, station_opc_loco_dirf, station_opc_loco_snd, station_opc_loco_spd,
+    station_opc_move_slots, station_opc_rq_sl_data, station_opc_slot_stat1, station_opc_sw_req,
+    station_opc_wr_sl_data,
+};
 pub use decoder::Decoder;
 use decoder::read_all;
 use decoder_node::NodeList;
@@ -41,6 +51,7 @@ pub use event::EventFields;
 use event::are_events;
 pub use layout::Layout;
 use layout_core::{DecoderState, Event, World};
+pub use message::Message;
 pub use motion::Motion;
 use motion::driven;
 use roster::Why;

@@ -2,17 +2,9 @@
 ghost use Rattle.std.specs.Prelude.{◌≡◌};
 ghost use Rattle.station_c.specs.Motion.{driven};
 
+use crate::kind::{EMERGENCY, STEP, STOP};
 use dcc_packet::{Motion as Asked, Steps};
 use decoder_node::Running;
-
-/// It is stopped, or brakes to a stop.
-const STOP: u8 = 0;
-
-/// It was stopped at once.
-const EMERGENCY: u8 = 1;
-
-/// It runs at a step.
-const STEP: u8 = 2;
 
 /// How a locomotive runs.
 #[repr(C)]

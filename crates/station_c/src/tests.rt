@@ -1,8 +1,9 @@
 //! The exports, called as C calls them. Bytes are worked out by hand from the two standards.
 
 use crate::{
-    Answer, Decoder, EventFields, Layout, Motion, station_byte, station_check, station_free,
-    station_new, station_outputs, station_read, station_run, station_running, station_turn,
+    Answer, Decoder, EventFields, Layout, Message, Motion, station_byte, station_check,
+    station_free, station_new, station_outputs, station_read, station_run, station_running,
+    station_turn,
 };
 use std::alloc::Global;
 use std::mem::size_of;
@@ -413,6 +414,7 @@ fn structs_are_as_large_as_in_c(rt: HostRuntime) {
     assert!(rt; size_of::<EventFields>() == 16);
     assert!(rt; size_of::<Answer>() == 16);
     assert!(rt; size_of::<Motion>() == 6);
+    assert!(rt; size_of::<Message>() == 15);
 }
 
 /// The statuses of making a layout and of reading one with this much memory left, if each is
