@@ -2,11 +2,22 @@
 
 from __future__ import annotations
 
+import re
+
 from .client import Client
 from .decoders import in_range
 from .errors import StationError
 
-__all__ = ["AbortedError", "NoAcknowledgeError", "NoDecoderError", "Programmer", "ProgrammerBusyError", "ProgrammingError"]
+__all__ = [
+    "AbortedError",
+    "NoAcknowledgeError",
+    "NoDecoderError",
+    "NoProgrammingTrackError",
+    "Programmer",
+    "ProgrammerBusyError",
+    "ProgrammingError",
+    "UnknownDecoderError",
+]
 
 # Direct mode by bytes (PCMD), and the last variable.
 READ, WRITE, LAST_CV = 0x2B, 0x6B, 1024
@@ -50,6 +61,26 @@ class ProgrammerBusyError(ProgrammingError):
     words = "the programmer is busy, or there is none"
 
 
+class NoProgrammingTrackError(StationError):
+    """The server runs without `--programmer`."""
+
+
+class UnknownDecoderError(StationError, ValueError):
+    """No locomotive of the file has this name."""
+
+
+# The reasons of `MOUNT ERROR` and `FAIL ERROR`.
+ERRORS = {"no programming track": NoProgrammingTrackError, "no such decoder": UnknownDecoderError}
+# A variable that differs from the file, as the `cvs` of a roster list it.
+CHANGE = re.compile(r"CV (\S+) \[(\d+), (\d+)\]")
+
+
+def read_change_line(line: str) -> tuple[str, tuple[int, int]] | None:
+    """The name of a decoder, and the number and value of its variable, by a `CV` line. None of another line."""
+    found = CHANGE.fullmatch(line)
+    return (found[1], (int(found[2]), int(found[3]))) if found else None
+
+
 class Programmer:
     """The programming track, over a client of its own. With `--turns` each task has its turns run."""
 
@@ -64,6 +95,34 @@ class Programmer:
     def write(self, cv: int, value: int) -> None:
         """Writes a byte to a variable."""
         self._task(WRITE, cv, in_range(value, 0, 255, "a value"))
+
+    def mount(self, name: str | None) -> None:
+        """Puts the locomotive of this name on the track instead of the one before, or none.
+
+        Each keeps its variables. A file whose locomotive is called "nothing" cannot put it there.
+        """
+        if name is not None and (len(name.split()) != 1 or name != name.strip() or not name.isascii() or name == "nothing"):
+            raise ValueError(f"{name!r} is no name")
+        self._arrange(f"MOUNT {name or 'nothing'}")
+
+    def fail(self, fails: bool = True) -> None:
+        """Lets acknowledgments fail from now on, or no more: decoders obey, and draw no current."""
+        self._arrange("FAIL programming" if fails else "FAIL none")
+
+    def changes(self) -> dict[str, dict[int, int]]:
+        """The variables that differ from the file, by the names of their locomotives."""
+        found: dict[str, dict[int, int]] = {}
+        for name, (cv, value) in self.client._states("CVS", read_change_line):
+            found.setdefault(name, {})[cv] = value
+        return found
+
+    def _arrange(self, request: str) -> None:
+        word = request.split()[0]
+        self.client._request(request)
+        answer = self.client._answer(word, request)
+        if answer != f"{word} OK":
+            reason = answer.removeprefix(f"{word} ERROR ")
+            raise ERRORS.get(reason, StationError)(f"{request}: {reason}")
 
     def _result(self) -> str:
         """Waits for the end of the task. Turns that it requests have passed then."""

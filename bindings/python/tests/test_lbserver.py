@@ -39,7 +39,13 @@ from station.decoders import read_node_line  # noqa: E402
 from station.lbserver import Client, Server, find_page  # noqa: E402
 from station.log import Conflict, Derailment, Log, sensors_at_start  # noqa: E402
 from station.messages import has_reply  # noqa: E402
-from station.programmer import NoAcknowledgeError, NoDecoderError, ProgrammerBusyError  # noqa: E402
+from station.programmer import (  # noqa: E402
+    NoAcknowledgeError,
+    NoDecoderError,
+    NoProgrammingTrackError,
+    ProgrammerBusyError,
+    UnknownDecoderError,
+)
 
 LAYOUT = TOP / "examples/layout.toml"
 OVAL, OVAL_ROSTER = TOP / "examples/oval.toml", TOP / "examples/oval-roster.toml"
@@ -668,8 +674,37 @@ class TestServer(unittest.TestCase):
                 with self.assertRaises(NoDecoderError):
                     server.programmer().read(1)
         with Server("--rate", "100") as server:
+            track = server.programmer()
             with self.assertRaises(ProgrammerBusyError):
-                server.programmer().read(1)
+                track.read(1)
+            with self.assertRaisesRegex(NoProgrammingTrackError, "FAIL none: no programming track"):
+                track.fail(False)
+
+    def test_decoders_change_places(self):
+        with Server("--programmer", str(OVAL_ROSTER), "--rate", "100") as server:
+            track = server.programmer()
+            self.assertEqual(track.changes(), {})
+            track.write(29, 6)
+            track.mount("express")
+            self.assertEqual((track.read(1), track.read(29)), (5, 2))
+            track.write(1, 7)
+            track.write(3, 20)
+            track.mount(None)
+            with self.assertRaises(NoDecoderError):
+                track.read(1)
+            self.assertEqual(track.changes(), {"shunter": {29: 6}, "express": {1: 7, 3: 20}})
+            track.mount("shunter")
+            track.fail()
+            with self.assertRaises(NoAcknowledgeError):
+                track.read(1)
+            track.fail(False)
+            self.assertEqual(track.read(29), 6)
+            with self.assertRaises(UnknownDecoderError):
+                track.mount("yard")
+            for name in ("", "two words", "nothing"):
+                with self.assertRaises(ValueError):
+                    track.mount(name)
+            self.assertEqual(track.read(1), 3)
 
     def test_trains(self):
         with Server("--turns", "0", roster=OVAL_ROSTER, plan=OVAL.read_text()) as server, server.client() as client:
