@@ -35,6 +35,25 @@ sent('F9 of address 1025', groupThree(1025, 1), 'ED 0B 7F 33 25 44 01 21 00 00 1
 sent('F10 of address 3', groupThree(3, 2), 'ED 0B 7F 23 22 03 22 00 00 00 46');
 sent('F12 of address 1234', groupThree(1234, 8), 'ED 0B 7F 33 27 44 52 28 00 00 4C');
 
+sent('a read of CV1', ask.readVariable(1), 'EF 0E 7C 2B 00 00 00 00 00 00 00 00 00 49');
+sent('6 to CV29', ask.writeVariable(29, 6), 'EF 0E 7C 6B 00 00 00 00 00 1C 06 00 00 13');
+// An address of 1023 is all ten ones, and 200 is 128 and 72.
+sent('200 to CV1024', ask.writeVariable(1024, 200), 'EF 0E 7C 6B 00 00 00 00 33 7F 48 00 00 0D');
+const programmed = new ProgrammingTrack();
+const result = (text, before = [0xB4]) => {
+  const found = programmed.hear(bytesOf(text), before);
+  return found && resultWords(found);
+};
+row('the results of tasks', [result('E7 0E 7C 2B 00 00 00 00 00 00 03 00 00 42'), result('E7 0E 7C 6B 00 00 00 00 00 1C 06 00 00 1B'),
+  result('E7 0E 7C 2B 04 00 00 00 00 00 00 00 00 45'), result('E7 0E 7C 6B 02 00 00 00 00 1C 06 00 00 19')],
+  ['CV1 is 3', 'CV29: 6 written', 'CV1: no acknowledgement', 'CV29: no acknowledgement']);
+row('what is known of the decoder', programmed.named(),
+  [['Address', '3'], ['CV29', '6: direction normal, 28 or 128 steps, short address, analog conversion']]);
+row('other slot data are no result', [result('E7 0E 01 23 03 00 00 06 00 00 00 00 00 31'),
+  result('E7 0E 7C 2B 00 00 00 00 00 00 03 00 00 42', [0xBB])], [null, null]);
+row('without a decoder nothing is known', [result('E7 0E 7C 2B 01 00 00 00 00 00 00 00 00 40'), programmed.named()], ['CV1: no decoder', []]);
+row('a task that is ended', result('E7 0E 7C 2B 08 00 00 00 00 00 00 00 00 49'), 'CV1: ended');
+
 // S-9.2.1: two of the 128 codes are stops, so the steps are 1 to 126; the others round down.
 const steps = (spd, kind, motion) => row(`SPD ${spd} of type ${kind}`, motionOf(spd, kind), motion);
 [[0, 3, 'stop'], [1, 0, 'emergency'], [2, 3, 'step 1 of 126'], [127, 3, 'step 126 of 126'], [2, 0, 'step 1 of 28'],
@@ -73,7 +92,7 @@ tell('TRAIN express siding 0 a main 0 derailed');
 row('two trains in a block are a conflict', plan.wordsOf('main'), 'conflict: shunter, express derailed');
 row('a train is in the blocks of both its ends', plan.wordsOf('siding'), 'express derailed');
 tell('TRAIN express siding 0 a siding 0');
-tell('TURNOUT 7 main.a siding.a siding.b');
+tell('TURNOUT 7 main.a siding.a siding.b closed');
 const derailment = (words) => {
   plan.hear(`TRAIN express ${words} 0 derailed`);
   return Object.values(plan.derailment(plan.trains.get('express')));
@@ -87,12 +106,12 @@ row('until its rear has left one', ['main', 'siding'].map((block) => plan.wordsO
 
 plan.forget();
 tell('BLOCK west 500', 'BLOCK main 500', 'BLOCK siding 500', 'BLOCK east 500', 'BLOCK loop 500', 'JOINT east.b loop.a');
-tell('TURNOUT 8 west.b main.a siding.a', 'TURNOUT 9 east.a main.b siding.b', 'TRAIN long loop 1 b west 0');
+tell('TURNOUT 8 west.b main.a siding.a closed', 'TURNOUT 9 east.a main.b siding.b closed', 'TRAIN long loop 1 b west 0');
 const under = () => plan.blocksOf(plan.trains.get('long'));
 row('a train is in all blocks between its ends', under(), ['loop', 'east', 'main', 'west']);
-plan.isClosed = () => false;
+tell('TURNOUT 8 west.b main.a siding.a thrown', 'TURNOUT 9 east.a main.b siding.b thrown');
 row('as the turnouts lie', under(), ['loop', 'east', 'siding', 'west']);
-plan.isClosed = (number) => number === 9;
+tell('TURNOUT 9 east.a main.b siding.b moving');
 row('or on the shortest way', under().length, 4);
 row('a block between them says so', ['east', 'loop', 'siding'].map((block) => plan.wordsOf(block)), ['long', 'long', 'free']);
 

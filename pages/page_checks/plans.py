@@ -186,9 +186,63 @@ def try_lists(browser, path, port, address):
                 check("which says why", browser.text("#drawing p"), words)
 
 
+LABELS = "return [...document.querySelectorAll('#plan [role=button]')].map((one) => one.ariaLabel).sort()"
+# Whether each leg of the turnouts, the closed one before the thrown one, is where trains run.
+LEADS = """
+return [...document.querySelectorAll('#plan [role=button]')].map((one) =>
+  [...one.parentNode.querySelectorAll(':scope > :not([role])')].map((leg) => !leg.classList.contains('other')));
+"""
+
+# Two tracks with a crossover, whose turnouts are on one switch and take two seconds.
+CROSSOVER = "version = 1\n" + "".join(
+    f'[[block]]\nname = "{name}"\nlength = {length}\na = {a}\nb = {b}\n'
+    for name, length, a, b in (
+        ("north-west", 1000, [0, 0], [300, 0]),
+        ("north-east", 1000, [400, 0], [700, 0]),
+        ("link", 80, [350, 30], [370, 70]),
+        ("south-west", 1000, [0, 100], [300, 100]),
+        ("south-east", 1000, [400, 100], [700, 100]),
+    )
+) + "".join(
+    f'[[turnout]]\nswitch = 1\ntime = 2000\ncommon = "{common}"\nclosed = "{closed}"\nthrown = "{thrown}"\n'
+    for common, closed, thrown in (("north-west.b", "north-east.a", "link.a"), ("south-east.a", "south-west.b", "link.b"))
+)
+
+
+def try_turnouts(browser, path, port, address):
+    """Turnouts are drawn as they lie: after a reload, both of a crossover, and while they move."""
+    with Server(path, "--page", str(port), *OVAL, "examples/oval.toml") as server, Client(server) as other:
+        browser.go(address)
+        both = ["Turnout 1, closed: throw", "Turnout 2, closed: throw"]
+        check("at first all are closed", browser.until_is(LABELS, both), both)
+        other.send(0x83)
+        for direction_and_output in (0x10, 0x00):
+            other.send(0xB0, 1, direction_and_output)
+        one = ["Turnout 1, closed: throw", "Turnout 2, thrown: close"]
+        check("one that is thrown, and switched off", browser.until_is(LABELS, one), one)
+        browser.go("about:blank")
+        browser.go(address)
+        check("also after a reload", browser.until_is(LABELS, one), one)
+        check("its thrown leg leads on", browser.run(LEADS), [[True, False], [False, True]])
+    with tempfile.NamedTemporaryFile("w", suffix=".toml") as file:
+        file.write(CROSSOVER)
+        file.flush()
+        with Server(path, "--page", str(port), *OVAL, file.name):
+            browser.go(address)
+            browser.until("#connection", "Connected")
+            browser.click("#on")
+            closed, moving, back, thrown = (2 * [f"Turnout 1, {words}"] for words in ("closed: throw", "moving: close", "moving: throw", "thrown: close"))
+            check("both turnouts of a crossover are drawn", browser.until_is(LABELS, closed), closed)
+            button = "document.querySelector('#plan [role=button]')"
+            for wanted in (moving, thrown, back, closed):
+                if wanted in (moving, back):
+                    browser.run(f"{button}.dispatchEvent(new MouseEvent('click', {{ bubbles: true }}))")
+                check(f"by one press both move: {wanted[0]}", browser.until_is(LABELS, wanted), wanted)
+
+
 def try_plans(browser, path, port, address):
     """All of these, by servers of their own."""
-    for part in (try_derailed, try_sizes, try_many_blocks, try_lists):
+    for part in (try_derailed, try_sizes, try_turnouts, try_many_blocks, try_lists):
         part(browser, path, port, address)
     browser.run("sessionStorage.clear()")
     browser.anew()
