@@ -3,10 +3,13 @@
 import contextlib
 import fcntl
 import os
+import pathlib
 import pty
 import re
+import resource
 import struct
 import subprocess
+import tempfile
 import termios
 import threading
 import time
@@ -239,14 +242,53 @@ def last_lines():
     holds("it does not wait for longer", len(printed) < len(wanted))
 
 
+FAILED = "lbserver: the log cannot be written: {}; running on without it\n"
+MISSING = "lbserver: lines of the log may be missing\n"
+
+
+def ends_without_log(server, reason):
+    """The server serves a client whole, its last, says once why it writes no log, and ends with status 7."""
+    texts, _ = speeds(100)
+    with Client(server) as client:
+        send_speeds(client, texts)
+    same("status", server.process.wait(20), 7)
+    same("standard error", server.faults.read_text(), FAILED.format(reason) + MISSING)
+
+
 def closed_output():
-    """a standard output that is closed ends it with status 4"""
+    """a standard output that is closed stops no client: the server says so once, and ends with status 7"""
     for pace in (("--turns", "1"), ()):
-        with serve(*pace, output=subprocess.PIPE) as server:
+        with serve(*pace, "--clients", "1", output=subprocess.PIPE) as server:
             server.process.stdout.close()
-            with server.connect():
-                same("status", server.process.wait(20), 4)
-            same("standard error", server.faults.read_text(), "lbserver: output\n")
+            ends_without_log(server, "its reader has closed the pipe")
+
+
+def full_device():
+    """nor does a full device, where not even the first line is written"""
+    with open("/dev/full", "wb") as full, serve("--turns", "1", "--clients", "2", output=full) as server:
+        ends_without_log(server, "no space left on the device")
+
+
+def room_for_the_log():
+    """a log that cannot grow for a while is whole once it can, and the status says that a write failed"""
+    with tempfile.TemporaryDirectory() as folder:
+        file = pathlib.Path(folder, "lbserver")
+        # A process that writes beyond the size that is allowed gets a signal, by default its end.
+        file.write_text(f"#!/bin/sh\ntrap '' XFSZ\nexec '{program['path']}' \"$@\"\n")
+        file.chmod(0o755)
+        with Server(file, "--turns", "0", "--clients", "1") as server:
+            most = resource.prlimit(server.process.pid, resource.RLIMIT_FSIZE)
+            resource.prlimit(server.process.pid, resource.RLIMIT_FSIZE, (4096, most[1]))
+            texts, wanted = speeds(200)
+            with Client(server) as client:
+                send_speeds(client, texts)
+                holds("it says that it cannot be written", server.until(lambda: server.faults.read_text() == FAILED.format("the file is too large")))
+                within("bytes of the log", 1, len("\n".join(server.printed())), 4096)
+                resource.prlimit(server.process.pid, resource.RLIMIT_FSIZE, most)
+                client.stream.sendall(message(0x80))
+                same("printed", printed_after(server, LAST), ["client 1 joins", *wanted, LAST])
+            same("status", server.process.wait(20), 7)
+            same("standard error", server.faults.read_text(), FAILED.format("the file is too large") + MISSING)
 
 
 def slot_reads():

@@ -305,8 +305,8 @@ OVAL_PLAN = [
     "BLOCK west 1200 a 200 400 b 200 100",
     "JOINT east.b back.a",
     "JOINT back.b west.a",
-    "TURNOUT 1 west.b main.a siding.a",
-    "TURNOUT 2 east.a main.b siding.b",
+    "TURNOUT 1 west.b main.a siding.a closed",
+    "TURNOUT 2 east.a main.b siding.b closed",
     "TRAIN shunter main 6 b main 0",
     "TRAIN express back 6 b back 0",
 ]
@@ -325,8 +325,8 @@ def plans_on_pages():
     """--plan: a page receives the plan once, and each train again when it has moved or derailed; no other client does"""
     # The front is 500 mm before the end of main. 1,150 turns last 6.6 s or more, and with those of messages at most
     # 13.3 s: at 125 mm/s that is 830 to 1,660 mm.
-    check_moves([], ON_MAIN + INTO_EAST + ON_EAST, [line.replace(" 125", " 0") for line in ON_EAST])
-    check_moves(send(POWER_ON, THROW_2), [*ON_MAIN, DERAILED], [DERAILED])
+    check_moves([], ON_MAIN + INTO_EAST + ON_EAST, [line.replace(" 125", " 0") for line in ON_EAST], [])
+    check_moves(send(POWER_ON, THROW_2), [*ON_MAIN, DERAILED], [DERAILED], ["TURNOUT 2 east.a main.b siding.b thrown"])
     with serve(*OVAL[:2], "--turns", "1", page=True) as server, Page(server) as page:
         same("without a plan", [page.line() for _ in OVAL_PLAN[:4]], OVAL_PLAN[:4])
         page.write(send(POWER_ON))
@@ -334,8 +334,9 @@ def plans_on_pages():
         same("and nothing behind it", [page.line() for _ in wanted], wanted)
 
 
-def check_moves(first, way, ends):
-    """A page receives the trains of a drive: some of a way, in order and each once, and last one of its ends."""
+def check_moves(first, way, ends, turnouts):
+    """A page receives the trains of a drive: some of a way, in order and each once, and last one of its ends; and turnouts that
+    have moved."""
     with serve(*OVAL, "--turns", "20", page=True) as server, Page(server) as page, Client(server) as client:
         same("the plan", [page.line() for _ in OVAL_PLAN], OVAL_PLAN)
         client.write(first)
@@ -344,7 +345,9 @@ def check_moves(first, way, ends):
         for text in (POWER_ON, STOP, "81 7E"):
             client.write(send(text))
             heard += client.lines_until(f"RECEIVE {text}")
-        told = [line for line in page.lines_until("RECEIVE 81 7E") if not line.startswith(("RECEIVE ", "NODE "))]
+        seen = page.lines_until("RECEIVE 81 7E")
+        same("turnouts", [line for line in seen if line.startswith("TURNOUT ")], turnouts)
+        told = [line for line in seen if not line.startswith(("RECEIVE ", "NODE ", "TURNOUT "))]
         # Without power it stands, and then runs on.
         moved = [line for line in told if not line.endswith(" 0")]
         moved = [line for at, line in enumerate(moved) if line not in moved[:at]]
@@ -353,7 +356,8 @@ def check_moves(first, way, ends):
         words = {line.split(" ")[0] for line in heard}
         same("another client", words - {"RECEIVE", "SENT", "TURNS"}, set())
         with Page(server) as other:
-            wanted = [line for line in OVAL_PLAN if line.startswith(("BLOCK", "JOINT", "TURNOUT"))] + [told[-1], OVAL_PLAN[-1]]
+            parts = [line for line in OVAL_PLAN if line.startswith(("BLOCK", "JOINT", "TURNOUT"))]
+            wanted = [*parts[: len(parts) - len(turnouts)], *turnouts, told[-1], OVAL_PLAN[-1]]
             seen = [other.line() for _ in OVAL_PLAN]
             same("a page that opens later", seen[4:], wanted)
 
@@ -434,7 +438,7 @@ def row_for_page(state, train):
         "BLOCK tail 1000 b 7 0",
         "JOINT near.b mid.a",
         "JOINT mid.b far.a",
-        "TURNOUT 1 tail.a side.b far.b",
+        "TURNOUT 1 tail.a side.b far.b closed",
         f"TRAIN shunter {train}",
         "TRAIN express far 5 b far 0",
     ]

@@ -17,7 +17,7 @@ READ_SLOT = message_hex(0xBB, 0x7C, 0x00)
 ABORT = message_hex(0xEF, 0x0E, 0x7C, *[0] * 10)
 # PCMD: direct mode by bytes, and by bits; paged mode, registers, and operations on the main track.
 READ, WRITE, READ_BIT, WRITE_BIT, OTHERS = 0x2B, 0x6B, 0x0B, 0x4B, (0x23, 0x13, 0x67)
-DONE, NO_DECODER, NO_WRITE, ABORTED = 0, 1, 2, 8
+DONE, NO_DECODER, NO_WRITE, NO_READ, ABORTED = 0, 1, 2, 4, 8
 
 # Address 3, version 5, manufacturer 13, and 28 or 128 steps.
 DECODER = '[[node]]\nname = "shunter"\nkind = "loco"\ncvs = [[1, 3], [7, 5], [8, 13], [29, 6]]\n'
@@ -68,6 +68,11 @@ def programmed(server):
     return [line.split(" ", 2)[2] for line in server.printed() if line.startswith("programming ")]
 
 
+def refusals(server):
+    """The lines of the log of tasks that are not implemented."""
+    return [line for line in server.printed() if line.startswith(f"message {NOT_IMPLEMENTED} ")]
+
+
 def worked_tasks():
     """--programmer: a read of CV1 and a write of CV29, packet by packet, to the turn"""
     with decoder(DECODER) as words, serve(*words, "--turns", "0", "--track") as server, Client(server) as client:
@@ -106,6 +111,9 @@ def task_statuses():
         ended(client, READ, DONE, 29, 2)
         for command in OTHERS:
             same(f"PCMD {command}", asked(client, task(command, 1)), receive(NOT_IMPLEMENTED))
+        holds("three are refused in the log", server.until(lambda: len(refusals(server)) == 3))
+        notes = [line.endswith(", operations mode is not implemented") for line in refusals(server)]
+        same("the last as operations mode", notes, [False, False, True])
         same("read", asked(client, task(READ, 1)), receive(ACCEPTED))
         same("busy", asked(client, task(WRITE, 29, 6)), receive(BUSY))
         same("aborted", asked(client, ABORT), receive(result(READ, ABORTED, 1, 0)))
@@ -117,6 +125,75 @@ def task_statuses():
         ended(client, READ, NO_DECODER, 1, 0)
     with serve("--turns", "0") as server, Client(server) as client:
         same("without a programmer", asked(client, task(READ, 1)), receive(BUSY))
+
+
+def own(client, line):
+    """The answer to a request of the client's own."""
+    client.write([line])
+    while not (found := client.line()).startswith(f"{line.split()[0]} "):
+        pass
+    return found
+
+
+def changes(client):
+    """The variables that differ from the file."""
+    client.write(["CVS"])
+    return [line for line in client.lines_until("CVS OK") if not line.startswith("RECEIVE ")]
+
+
+def arranged_track():
+    """--programmer: other decoders, none, failing acknowledgments, and what differs from the file"""
+    other = DECODER.replace("shunter", "express").replace("[1, 3]", "[1, 5]")
+    with decoder(YARD, DECODER, other) as file, serve(*file, "--turns", "0") as server, Client(server) as client:
+        same("none differ", changes(client), ["CVS OK"])
+        ended(client, READ, DONE, 1, 3)
+        ended(client, WRITE, DONE, 29, 2, 2)
+        same("another decoder", own(client, "MOUNT express"), "MOUNT OK")
+        ended(client, READ, DONE, 1, 5)
+        ended(client, WRITE, DONE, 1024, 200, 200)
+        written = ["CV shunter [29, 2]", "CV express [1024, 200]", "CVS OK"]
+        same("variables that differ", changes(client), written)
+        same("none", own(client, "MOUNT nothing"), "MOUNT OK")
+        ended(client, READ, NO_DECODER, 1, 0)
+        ended(client, WRITE, NO_DECODER, 1, 4, 4)
+        same("as they were", changes(client), written)
+        same("the first", own(client, "MOUNT shunter"), "MOUNT OK")
+        ended(client, READ, DONE, 29, 2)
+        same("failing", own(client, "FAIL programming"), "FAIL OK")
+        ended(client, READ, NO_READ, 1, 0)
+        ended(client, WRITE, NO_WRITE, 1, 4, 4)
+        same("no more", own(client, "FAIL none"), "FAIL OK")
+        # The value was stored all the same.
+        ended(client, READ, DONE, 1, 4)
+        # A write of 8 to CV8 gives the values of the file.
+        ended(client, WRITE, DONE, 8, 8, 8)
+        same("the file", changes(client), written[1:])
+        for name in ("yard", "Shunter", "0123456789012345678901234567890123456789"):
+            same(name, own(client, f"MOUNT {name}"), "MOUNT ERROR no such decoder")
+        for line in ("MOUNT", "MOUNT shunter express", "MOUNT shunter" + " " * 400):
+            same(line, own(client, line), "MOUNT ERROR no name of a decoder")
+        for line in ("FAIL", "FAIL sensor", "FAIL programming none"):
+            same(line, own(client, line), "FAIL ERROR neither programming nor none")
+        ended(client, READ, DONE, 1, 3)
+
+
+def arranged_while_busy():
+    """--programmer: another decoder is put on the track while a task is under way, which goes on"""
+    other = DECODER.replace("shunter", "express").replace("[1, 3]", "[1, 5]")
+    with decoder(DECODER, other) as file, serve(*file, "--turns", "0") as server, Client(server) as client, Client(server) as second:
+        same("read", asked(client, task(READ, 1)), receive(ACCEPTED))
+        # The answer is for the one that asks alone.
+        same("another decoder", own(second, "MOUNT express"), "MOUNT OK")
+        same("the value", after_turns(client, 249), receive(result(READ, DONE, 1, 5)))
+        same("only messages", [line for line in answers(client, []) if "MOUNT" in line], [])
+
+
+def without_programmer():
+    """MOUNT, FAIL and CVS without --programmer"""
+    with serve("--turns", "0") as server, Client(server) as client:
+        for word, line in (("MOUNT", "MOUNT shunter"), ("MOUNT", "MOUNT"), ("FAIL", "FAIL programming"), ("FAIL", "FAIL none")):
+            same(line, own(client, line), f"{word} ERROR no programming track")
+        same("CVS", changes(client), ["CVS OK"])
 
 
 def value_of(client, command, number, value=0):

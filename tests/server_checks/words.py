@@ -89,6 +89,18 @@ def bad_words():
         holds(f"{words}: the help is printed", "up to eight at once" not in faults)
 
 
+# Numbers that are accepted: the least and the most, and one between.
+GOOD_NUMBERS = {"rate": (1, 50, 100), "turns": (0, 50, 255), "lose": (0, 50, 99), "seed": (0, 50, 4_294_967_295)}
+
+
+def good_words():
+    """words of an order are carried out, with status 0"""
+    for name, numbers in GOOD_NUMBERS.items():
+        for number in numbers:
+            status, wrote, faults = run("--port", "0", "--clients", "0", f"--{name}", str(number))
+            same(f"--{name} {number}", (status, wrote[:10], faults), (0, "listening ", ""))
+
+
 def statuses():
     """files, ports and addresses that are not to be had have their statuses"""
     with open("/dev/full", "wb") as full:
