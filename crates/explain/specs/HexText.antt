@@ -49,10 +49,13 @@ message_in_text line =
 abbrev pub message_in_line : List ℕ → Option (List ℕ)
 message_in_line line = message_in_text (without_explanation line)
 
+abbrev pub hex_pair : ℕ → List ℕ
+hex_pair byte = hex_char (byte / 16) ∷ hex_char (byte % 16) ∷ []
+
 -- bytes as pairs of digits with a space between them, and a line feed
 abbrev pub hex_line : List ℕ → List ℕ
 hex_line [] = []
-hex_line (byte ∷ bytes) = hex_char (byte / 16) ∷ hex_char (byte % 16) ∷ hex_words bytes ++ 10 ∷ []
+hex_line (byte ∷ bytes) = hex_pair byte ++ hex_words bytes ++ 10 ∷ []
 
 abbrev pub hex_line_if : Option (List ℕ) → List ℕ
 hex_line_if None = []

@@ -1,4 +1,5 @@
 pub mod Brackets
+pub mod Captures
 pub mod Conversion
 pub mod Ends
 pub mod Explained

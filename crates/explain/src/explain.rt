@@ -1,14 +1,14 @@
 //! The program as a filter.
 ghost use Rattle.explain.specs.Conversion.{ExplainsOrConverts};
 
-use crate::conversion::convert;
+use crate::conversion::{Conversion, convert};
 use crate::streams::execute;
 use filter::{Filter, FilterFlag, FilterFlags, FilterText};
 use input_text::{Input, Output};
 use std::alloc::Global;
 use std::io::Write;
 
-/// Adds explanations to the lines of an input, or converts its messages to hex text.
+/// Adds explanations to the lines of an input, or converts a whole log or capture.
 pub struct Explain;
 
 impl Filter for Explain {
@@ -23,7 +23,10 @@ impl Filter for Explain {
                 name: "hex",
                 help: "Writes only the bytes of messages, one message a line, as station monitor reads them",
             }),
-            second_flag: None,
+            second_flag: Some(FilterFlag {
+                name: "binary",
+                help: "Reads captured bytes of a LocoNet, not text",
+            }),
         }
     }
 
@@ -36,10 +39,12 @@ impl Filter for Explain {
         output: &mut O,
         faults: &mut E,
     ) -> u8 {
-        if flags.first {
-            convert(alloc, source, input, output, faults)
-        } else {
-            execute(alloc, source, input, output, faults)
-        }
+        let conversion = match (flags.first, flags.second) {
+            (false, false) => return execute(alloc, source, input, output, faults),
+            (true, false) => Conversion::LogToHex,
+            (false, true) => Conversion::CaptureExplained,
+            (true, true) => Conversion::CaptureToHex,
+        };
+        convert(alloc, conversion, source, input, output, faults)
     }
 }

@@ -1,18 +1,14 @@
 //! The messages of a log as hex text.
 ghost use Rattle.std.specs.Prelude.{◌≡◌, ◌≤◌, ◌++◌, IfOk, OnOk, length};
-ghost use Rattle.explain.specs.HexText.{before_two_spaces, bytes_in, hex_line, hex_line_of, hex_text, message_in_line, message_in_text, pairs_in, without_explanation};
-ghost use Rattle.text.specs.Hex.{hex_words};
+ghost use Rattle.explain.specs.HexText.{before_two_spaces, bytes_in, hex_line_of, hex_text, message_in_line, message_in_text, pairs_in, without_explanation};
 
 use crate::brackets::without_brackets;
+use crate::capture::push_hex_line;
 use crate::lines::body_and_end;
-use arrayvec::ArrayVec;
 use ln_frame::Msg;
 use loconet_tcp::{Bytes, LONGEST_LINE, bytes_of, leading_bytes};
 use std::alloc::{AllocError, Global};
-use text::{cut_piece, push_hex_words, split_at_line_feed};
-
-/// The bytes of a message, each as a space and two digits.
-type HexWords = ArrayVec<u8, 381>;
+use text::{cut_piece, split_at_line_feed};
 
 /// Returns the bytes of a text whose words are all pairs of digits; otherwise none.
 fn pairs_in(text: &[u8]) -> Bytes
@@ -84,24 +80,13 @@ fn message_in_line(line: &[u8]) -> Option<Msg>
     message_in_text(without_explanation(line))
 }
 
-/// Appends a message as a line of pairs of digits.
-fn push_message(message: &Msg, text: &mut Vec<u8>) -> Result<(), AllocError>
-    ensures { OnOk result (text.new.items ≡ text.old.items ++ hex_line message.now) }
-{
-    let mut words = HexWords::new();
-    push_hex_words(&mut words, message.bytes());
-    text.extend_from_slice(&words.as_slice()[1..])?;
-    text.push(b'\n')?;
-    Ok(())
-}
-
 /// Appends the message in a line, if it has a whole one.
 #[tactic(auto, unfolding(crate::specs::HexText::hex_line_of))]
 fn push_line(line: &[u8], text: &mut Vec<u8>) -> Result<(), AllocError>
     ensures { OnOk result (text.new.items ≡ text.old.items ++ hex_line_of line.now) }
 {
     match message_in_line(line) {
-        Some(message) => push_message(&message, text),
+        Some(message) => push_hex_line(message.bytes(), text),
         None => Ok(()),
     }
 }

@@ -3,6 +3,7 @@
 #![tactic(auto)]
 
 mod brackets;
+mod capture;
 mod conversion;
 mod end;
 mod explain;
@@ -16,7 +17,8 @@ mod lines;
 mod parts;
 mod streams;
 
-pub use conversion::convert;
+pub use capture::capture_text;
+pub use conversion::{Conversion, convert};
 pub use explain::Explain;
 pub use explainer::Explainer;
 pub use fault::ExplainFault;

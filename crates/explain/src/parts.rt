@@ -38,7 +38,7 @@ fn data_len(bytes: &[u8]) -> usize
 }
 
 /// Splits off the first part: one byte, and the data after it.
-fn cut_part(bytes: &[u8]) -> (&[u8], &[u8])
+pub(crate) fn cut_part(bytes: &[u8]) -> (&[u8], &[u8])
     requires { 0 < length bytes.now }
     ensures parts { parts_of bytes.now ≡ result.0.now ∷ parts_of result.1.now }
     ensures shorter { length result.1.now < length bytes.now }
@@ -79,7 +79,7 @@ fn front_len(part: &[u8]) -> usize
 /// Splits a part into the message that it begins with, which may be broken off, and the bytes
 /// behind it.
 #[tactic(auto, using(crate::proofs::Cuts::whole_part))]
-fn split_part(part: &[u8]) -> (&[u8], &[u8])
+pub(crate) fn split_part(part: &[u8]) -> (&[u8], &[u8])
     ensures front { result.0.now ≡ front_of part.now }
     ensures back { result.1.now ≡ back_of part.now }
     ensures front_len { length result.0.now ≤ length part.now }
