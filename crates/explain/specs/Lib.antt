@@ -3,7 +3,6 @@ pub mod Captures
 pub mod Conversion
 pub mod Ends
 pub mod Explained
-pub mod Fault
 pub mod FaultLines
 pub mod HexText
 pub mod Lines

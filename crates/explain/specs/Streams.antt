@@ -1,6 +1,8 @@
 -- The effect of a run on its streams.
-use Rattle.std.specs.Prelude.{ℕ, Bool, ◌≡◌, List, ◌++◌, Option}
+use Rattle.std.specs.Prelude.{ℕ, Bool, ◌≡◌, ◌⊎◌, List, ◌++◌, Option}
 use Rattle.std.specs.Io.KnownBytes.{Appends, Consumes, IsAtEnd}
+use Rattle.filter.specs.declared.fault.FilterFault.{FilterFault}
+use Rattle.filter.specs.declared.fault.FilterFault.TheVariants.{NoMemory, Output, Unreadable}
 use Rattle.explain.specs.Explained.{explained}
 use Rattle.explain.specs.Unfinished.{to_write}
 
@@ -18,6 +20,12 @@ abbrev pub ExplainsFront : (old_input new_input old_output new_output : Option (
 ExplainsFront old_input new_input old_output new_output =
     (text : List ℕ) × (written : List ℕ) × (left : List ℕ) × Consumes old_input new_input text × Appends old_output new_output written
     × (explained text ≡ written ++ left)
+
+-- It failed: a prefix of the explained text was written, and all of it if a read failed. It was no line, and not the length.
+abbrev pub FailsToExplain : FilterFault → (old_input new_input old_output new_output : Option (List ℕ)) → Type 0
+FailsToExplain fault old_input new_input old_output new_output =
+    ExplainsFront old_input new_input old_output new_output × (fault ≡ Unreadable → Explains old_input new_input old_output new_output)
+    × ((fault ≡ Unreadable) ⊎ (fault ≡ Output) ⊎ (fault ≡ NoMemory))
 
 -- After the bytes held some text was read, and the output that it completes was written: whatever
 -- text follows, no output is lost and none is invented.

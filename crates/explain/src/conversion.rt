@@ -1,17 +1,16 @@
 //! Converting a whole log or capture.
-ghost use Rattle.std.specs.Prelude.{◌≡◌, ◌≢◌, ◌==◌, ◌⊎◌, false, IfErr, IfOk, OnOk};
-ghost use Rattle.explain.specs.Conversion.{Converts, converted, has_unread};
-ghost use Rattle.explain.specs.Ends.{has_unwritten};
+ghost use Rattle.std.specs.Prelude.{◌≡◌, ◌≢◌, false, IfErr, IfOk, OnOk};
+ghost use Rattle.filter.specs.Fault.{is_unread, is_unwritten};
+ghost use Rattle.explain.specs.Conversion.{Converts, converted};
 ghost use Rattle.explain.specs.Explained.{explained};
 
 use crate::capture::capture_text;
 use crate::explainer::Explainer;
-use crate::fault::ExplainFault;
 use crate::hex::hex_text;
-use crate::streams::{report, write_text};
+use crate::streams::write_text;
+use filter::FilterFault;
 use input_text::{Input, Output, read_limited};
 use std::alloc::{AllocError, Global};
-use std::io::Write;
 
 /// What a whole input is, and what is written of it.
 #[derive(Clone, Copy)]
@@ -27,60 +26,33 @@ pub enum Conversion {
 /// The most bytes of an input.
 const LONGEST_LOG: usize = 16_777_216;
 
-/// Reads an input to its end, at most 16,777,216 bytes, writes what it is converted to, and returns
-/// the exit status: 0, 2, 4, 5 or 6.
+/// Reads an input to its end, at most 16,777,216 bytes, and then writes what it is converted to.
 ///
-/// `source` is the name of the input in fault lines. If the status is not 0, one line `explain: ..`
-/// is written to `faults`.
-pub fn convert<I, O, E>(
-    alloc: Global,
-    conversion: Conversion,
-    source: &str,
-    input: &mut I,
-    output: &mut O,
-    faults: &mut E,
-) -> u8
-where
-    I: Input,
-    O: Output,
-    E: Write,
-    requires reads { I.failed input.old ≡ false }
-    requires writes { O.failed output.old ≡ false }
-    ensures status { (result ≡ 0) ⊎ (result ≡ 2) ⊎ (result ≡ 4) ⊎ (result ≡ 5) ⊎ (result ≡ 6) }
-    ensures converted { result ≡ 0
-        → Converts conversion (I.left input.old) (I.left input.new) (O.held output.old) (O.held output.new) }
-    // The status is 2 exactly if a read failed, and 4 exactly if a write or a flush did.
-    ensures unread { I.failed input.new ≡ (result == 2) }
-    ensures unwritten { O.failed output.new ≡ (result == 4) }
-    // Unless the output failed, a fault writes nothing.
-    ensures kept { result ≢ 0 → result ≢ 4 → output.new ≡ output.old }
-    ensures quiet { result ≡ 0 → faults.new ≡ faults.old }
-{
-    match convert_input(alloc, conversion, input, output) {
-        Ok(()) => 0,
-        Err(fault) => report(fault, source, faults),
-    }
-}
-
-/// Reads the whole input, and then writes what it is converted to.
-fn convert_input<I: Input, O: Output>(
+/// # Errors
+///
+/// `Unreadable` if a read failed, `TooLong` for a longer input, `Output` if a write or a flush
+/// failed, `NoMemory` if out of memory.
+pub fn convert<I: Input, O: Output>(
     alloc: Global,
     conversion: Conversion,
     input: &mut I,
     output: &mut O,
-) -> Result<(), ExplainFault>
+) -> Result<(), FilterFault>
     requires reads { I.failed input.old ≡ false }
     requires writes { O.failed output.old ≡ false }
     ensures converted { OnOk result
         (Converts conversion (I.left input.old) (I.left input.new) (O.held output.old)
         (O.held output.new)) }
-    ensures unread { I.failed input.new ≡ has_unread result }
-    ensures unwritten { O.failed output.new ≡ has_unwritten result }
-    ensures kept { IfErr result (λ e. e ≢ ExplainFault.Output → output.new ≡ output.old) }
+    // The fault is that of the input exactly if a read failed, and that of the output exactly if a
+    // write or a flush did.
+    ensures unread { I.failed input.new ≡ is_unread result }
+    ensures unwritten { O.failed output.new ≡ is_unwritten result }
+    // Unless the output failed, a fault writes nothing.
+    ensures kept { IfErr result (λ e. e ≢ FilterFault.Output → output.new ≡ output.old) }
 {
     let log = read_limited(alloc, input, LONGEST_LOG + 1)?;
     if log.len() > LONGEST_LOG {
-        return Err(ExplainFault::TooLong);
+        return Err(FilterFault::TooLong);
     }
     let text = converted(alloc, conversion, log.as_slice())?;
     write_text(text.as_slice(), output)

@@ -1,12 +1,11 @@
 //! The program as a filter.
-ghost use Rattle.explain.specs.Conversion.{ExplainsOrConverts};
+ghost use Rattle.explain.specs.Conversion.{ExplainsOrConverts, FailsSo};
 
 use crate::conversion::{Conversion, convert};
-use crate::streams::execute;
-use filter::{Filter, FilterFlag, FilterFlags, FilterText};
+use crate::streams::explain;
+use filter::{Filter, FilterFault, FilterFlag, FilterFlags, FilterText};
 use input_text::{Input, Output};
 use std::alloc::Global;
-use std::io::Write;
 
 /// Adds explanations to the lines of an input, or converts a whole log or capture.
 pub struct Explain;
@@ -14,11 +13,14 @@ pub struct Explain;
 impl Filter for Explain {
     ghost filters = { ExplainsOrConverts };
 
+    ghost fails = { FailsSo };
+
     fn text(&self) -> FilterText<'static> {
         FilterText {
             name: "explain",
             about: "Copies its input, and adds to each line of a message or a packet what it says",
             details: "It reads what station and lbserver print, lines of LocoNet over TCP (RECEIVE, SEND), and messages and packets as pairs of hexadecimal digits, one a line.\n\nExample: station replay --roster layout.toml < session.script | explain",
+            line: "line",
             flag: Some(FilterFlag {
                 name: "hex",
                 help: "Writes only the bytes of messages, one message a line, as station monitor reads them",
@@ -30,21 +32,19 @@ impl Filter for Explain {
         }
     }
 
-    fn execute<I: Input, O: Output, E: Write>(
+    fn run<I: Input, O: Output>(
         &self,
         alloc: Global,
         flags: FilterFlags,
-        source: &str,
         input: &mut I,
         output: &mut O,
-        faults: &mut E,
-    ) -> u8 {
+    ) -> Result<(), FilterFault> {
         let conversion = match (flags.first, flags.second) {
-            (false, false) => return execute(alloc, source, input, output, faults),
+            (false, false) => return explain(alloc, input, output),
             (true, false) => Conversion::LogToHex,
             (false, true) => Conversion::CaptureExplained,
             (true, true) => Conversion::CaptureToHex,
         };
-        convert(alloc, conversion, source, input, output, faults)
+        convert(alloc, conversion, input, output)
     }
 }

@@ -8,7 +8,6 @@ mod conversion;
 mod end;
 mod explain;
 mod explainer;
-mod fault;
 mod fault_lines;
 mod hex;
 mod laws;
@@ -21,12 +20,11 @@ pub use capture::capture_text;
 pub use conversion::{Conversion, convert};
 pub use explain::Explain;
 pub use explainer::Explainer;
-pub use fault::ExplainFault;
 use filter::run_filter;
 pub use hex::hex_text;
 pub use laws::{messages_are_explained, printed_lines_are_explained};
 use std::process::ExitCode;
-pub use streams::execute;
+pub use streams::explain;
 
 #[cfg(test)]
 mod tests;

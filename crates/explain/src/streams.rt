@@ -1,71 +1,48 @@
 //! Running the program on its streams.
-ghost use Rattle.std.specs.Prelude.{◌≡◌, ◌==◌, ◌⊎◌, ◌<◌, ◌^◌, IfErr, IfOk, None, OnErr, OnOk, Some, false, true};
+ghost use Rattle.std.specs.Prelude.{◌≡◌, ◌⊎◌, ◌<◌, ◌^◌, IfErr, IfOk, None, OnErr, OnOk, Some, false, true};
 ghost use Rattle.std.specs.Io.KnownBytes.{Appends, IsAtEnd};
+ghost use Rattle.filter.specs.Fault.{is_unwritten};
 ghost use Rattle.input_text.specs.Write.{failed_after};
-ghost use Rattle.explain.specs.Ends.{has_unread, has_unread_yet, has_unwritten, read_failed};
-ghost use Rattle.explain.specs.Fault.{status_of};
-ghost use Rattle.explain.specs.Streams.{AppendsFront, Begins, Explains, ExplainsFront, Follows};
+ghost use Rattle.explain.specs.Ends.{has_unread, has_unread_yet, read_failed};
+ghost use Rattle.explain.specs.Streams.{AppendsFront, Begins, Explains, ExplainsFront, ExplainsWhole, FailsToExplain, Follows};
 
 use crate::end::End;
 use crate::explainer::Explainer;
-use crate::fault::ExplainFault;
+use filter::FilterFault;
 use input_text::{Input, Output, ReadFault, put_all};
 use std::alloc::Global;
-use std::io::Write;
 
 /// The number of bytes requested of a reader at a time.
 const CHUNK: usize = 4096;
 
-/// Explains the lines of `input`, to its end, and returns the exit status: 0, 2, 4 or 6.
+/// Explains the lines of an input, to its end. Each line is written as soon as its end is read.
 ///
-/// `source` is the name of the input in fault lines. Each line is written to `output` as soon as its end is read. If the status is not 0, one line
-/// `explain: ..` is written to `faults`.
-pub fn execute<I, O, E>(
+/// # Errors
+///
+/// `Unreadable` if a read failed: then all that was read before is explained. `Output` if a write
+/// or a flush failed, `NoMemory` if out of memory; whatever fails, no output is invented.
+pub fn explain<I: Input, O: Output>(
     alloc: Global,
-    source: &str,
     input: &mut I,
     output: &mut O,
-    faults: &mut E,
-) -> u8
-where
-    I: Input,
-    O: Output,
-    E: Write,
+) -> Result<(), FilterFault>
     requires reads { I.failed input.old ≡ false }
     requires writes { O.failed output.old ≡ false }
-    ensures status { (result ≡ 0) ⊎ (result ≡ 2) ⊎ (result ≡ 4) ⊎ (result ≡ 6) }
-    ensures explained { result ≡ 0
-        → Explains (I.left input.old) (I.left input.new) (O.held output.old) (O.held output.new) }
-    ensures end { result ≡ 0 → IsAtEnd (I.left input.new) }
-    // No read failed if the status is 0. If it is 2 one did, and all that was read before is
-    // explained.
-    ensures read { result ≡ 0 → I.failed input.new ≡ false }
-    ensures failed { result ≡ 2 → I.failed input.new ≡ true }
-    ensures unread { result ≡ 2
-        → Explains (I.left input.old) (I.left input.new) (O.held output.old) (O.held output.new) }
-    // It is 4 exactly if a write or a flush failed.
-    ensures unwritten { O.failed output.new ≡ (result == 4) }
-    // Whatever fails, no output is invented.
-    ensures begun { ExplainsFront (I.left input.old) (I.left input.new) (O.held output.old)
-        (O.held output.new) }
-    ensures quiet { result ≡ 0 → faults.new ≡ faults.old }
+    ensures explained { OnOk result
+        (ExplainsWhole (I.left input.old) (I.left input.new) (O.held output.old)
+        (O.held output.new)) }
+    ensures read { OnOk result (I.failed input.new ≡ false) }
+    ensures failed { IfErr result
+        (λ fault. fault ≡ FilterFault.Unreadable → I.failed input.new ≡ true) }
+    ensures fault { IfErr result
+        (λ fault. FailsToExplain fault (I.left input.old) (I.left input.new) (O.held output.old)
+        (O.held output.new)) }
+    ensures unwritten { O.failed output.new ≡ is_unwritten result }
 {
-    match explain_input(alloc, input, output) {
-        Ok(End::Whole) => 0,
-        Ok(End::Unreadable) => report(ExplainFault::Unreadable, source, faults),
-        Err(fault) => report(fault, source, faults),
+    match explain_input(alloc, input, output)? {
+        End::Whole => Ok(()),
+        End::Unreadable => Err(FilterFault::Unreadable),
     }
-}
-
-/// Reports a fault and returns its status. A failure of this report cannot be reported.
-pub(crate) fn report<E: Write>(fault: ExplainFault, source: &str, faults: &mut E) -> u8
-    ensures { result ≡ status_of fault }
-{
-    let _ = match fault {
-        ExplainFault::Unreadable => writeln!(faults, "explain: cannot read {source}"),
-        _ => writeln!(faults, "explain: {fault}"),
-    };
-    fault.status()
 }
 
 /// Explains the lines of the input, to its end or to a read that fails.
@@ -73,7 +50,7 @@ fn explain_input<I: Input, O: Output>(
     alloc: Global,
     input: &mut I,
     output: &mut O,
-) -> Result<End, ExplainFault>
+) -> Result<End, FilterFault>
     requires reads { I.failed input.old ≡ false }
     requires writes { O.failed output.old ≡ false }
     ensures explained { OnOk result
@@ -82,8 +59,8 @@ fn explain_input<I: Input, O: Output>(
     ensures failed { IfOk result (λ end. I.failed input.new ≡ read_failed end) }
     ensures begun { ExplainsFront (I.left input.old) (I.left input.new) (O.held output.old)
         (O.held output.new) }
-    ensures fault { IfErr result (λ e. (e ≡ ExplainFault.Output) ⊎ (e ≡ ExplainFault.NoMemory)) }
-    ensures unwritten { O.failed output.new ≡ has_unwritten result }
+    ensures fault { IfErr result (λ e. (e ≡ FilterFault.Output) ⊎ (e ≡ FilterFault.NoMemory)) }
+    ensures unwritten { O.failed output.new ≡ is_unwritten result }
 {
     let mut explainer = Explainer::new();
     let mut text = Vec::new(alloc);
@@ -101,7 +78,7 @@ fn push_all<I: Input, O: Output>(
     text: &mut Vec<u8>,
     input: &mut I,
     output: &mut O,
-) -> Result<End, ExplainFault>
+) -> Result<End, FilterFault>
     requires reads { I.failed input.old ≡ false }
     requires writes { O.failed output.old ≡ false }
     ensures followed { OnOk result
@@ -113,8 +90,8 @@ fn push_all<I: Input, O: Output>(
     ensures begun { OnErr result
         (Begins (I.left input.old) (I.left input.new) (O.held output.old) (O.held output.new)
         explainer.old.is_long explainer.old.line.items) }
-    ensures fault { IfErr result (λ e. (e ≡ ExplainFault.Output) ⊎ (e ≡ ExplainFault.NoMemory)) }
-    ensures unwritten { O.failed output.new ≡ has_unwritten result }
+    ensures fault { IfErr result (λ e. (e ≡ FilterFault.Output) ⊎ (e ≡ FilterFault.NoMemory)) }
+    ensures unwritten { O.failed output.new ≡ is_unwritten result }
 {
     loop {
         if let Some(end) = push_some(explainer, text, input, output)? {
@@ -130,7 +107,7 @@ fn push_some<I: Input, O: Output>(
     text: &mut Vec<u8>,
     input: &mut I,
     output: &mut O,
-) -> Result<Option<End>, ExplainFault>
+) -> Result<Option<End>, FilterFault>
     requires reads { I.failed input.old ≡ false }
     requires writes { O.failed output.old ≡ false }
     ensures followed { OnOk result
@@ -145,15 +122,15 @@ fn push_some<I: Input, O: Output>(
     ensures begun { OnErr result
         (Begins (I.left input.old) (I.left input.new) (O.held output.old) (O.held output.new)
         explainer.old.is_long explainer.old.line.items) }
-    ensures fault { IfErr result (λ e. (e ≡ ExplainFault.Output) ⊎ (e ≡ ExplainFault.NoMemory)) }
-    ensures unwritten { O.failed output.new ≡ has_unwritten result }
+    ensures fault { IfErr result (λ e. (e ≡ FilterFault.Output) ⊎ (e ≡ FilterFault.NoMemory)) }
+    ensures unwritten { O.failed output.new ≡ is_unwritten result }
 {
     let mut chunk = [0u8; CHUNK];
     let count = match input.get(&mut chunk) {
         Ok(0) => return Ok(Some(End::Whole)),
         Ok(count) => count,
         Err(ReadFault::Failed) => return Ok(Some(End::Unreadable)),
-        Err(ReadFault::NoMemory) => return Err(ExplainFault::NoMemory),
+        Err(ReadFault::NoMemory) => return Err(FilterFault::NoMemory),
     };
     text.clear();
     explainer.push(&chunk[..count], text)?;
@@ -162,10 +139,10 @@ fn push_some<I: Input, O: Output>(
 }
 
 /// Writes and flushes a text. In every case, a prefix of the text was written.
-pub(crate) fn write_text<O: Output>(text: &[u8], output: &mut O) -> Result<(), ExplainFault>
+pub(crate) fn write_text<O: Output>(text: &[u8], output: &mut O) -> Result<(), FilterFault>
     ensures written { OnOk result (Appends (O.held output.old) (O.held output.new) text.now) }
     ensures front { AppendsFront (O.held output.old) (O.held output.new) text.now }
-    ensures fault { IfErr result (λ e. e ≡ ExplainFault.Output) }
+    ensures fault { IfErr result (λ e. e ≡ FilterFault.Output) }
     ensures failed { O.failed output.new ≡ failed_after result (O.failed output.old) }
 {
     put_all(output, text)?;

@@ -5,7 +5,8 @@ mod lines;
 mod memory;
 mod words;
 
-use crate::{Explain, execute};
+use crate::Explain;
+use filter::{Filter, FilterFlags, execute};
 use input_text::{Input, Output};
 use std::alloc::Global;
 use std::io::Write;
@@ -22,6 +23,19 @@ impl Program for Explain {
         on: Streams<'_, I, O, E>,
     ) -> u8 {
         let Streams(input, output, faults) = on;
-        execute(alloc, "-", input, output, faults)
+        let flags = FilterFlags {
+            first: false,
+            second: false,
+        };
+        execute(
+            &Explain,
+            Explain.text(),
+            alloc,
+            flags,
+            "-",
+            input,
+            output,
+            faults,
+        )
     }
 }

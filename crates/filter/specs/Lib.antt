@@ -1,5 +1,6 @@
 pub mod ClosedPipe
-pub mod FilterFault
+pub mod Fault
 pub mod FilterLine
 pub mod FilterRuns
+pub mod StartFault
 pub mod Terminal

@@ -13,6 +13,7 @@
 
 mod announced;
 mod closed_pipe;
+mod fault;
 mod filter;
 mod orders;
 mod report;
@@ -22,8 +23,9 @@ mod table;
 mod terminal;
 mod text;
 
+pub use fault::FilterFault;
 pub use filter::Filter;
 pub use orders::filter_order;
-pub use running::execute_words;
+pub use running::{execute, execute_words};
 pub use standard::run_filter;
 pub use text::{FilterFlag, FilterFlags, FilterOrder, FilterText};

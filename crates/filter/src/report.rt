@@ -1,6 +1,6 @@
 //! Why a filter does not run on its input, and the report of it.
 ghost use Rattle.std.specs.Prelude.{◌≡◌, ◌≢◌};
-ghost use Rattle.filter.specs.FilterFault.{status_of};
+ghost use Rattle.filter.specs.StartFault.{status_of};
 
 use command_line::{FileName, open_error_words};
 use std::io::{ErrorKind, Write};

@@ -1,8 +1,10 @@
 //! Running a filter on its arguments.
-ghost use Rattle.std.specs.Prelude.{ℕ, ◌≡◌, ◌==◌, ◌≤◌, List, Some, OnOk, true, false, map};
+ghost use Rattle.std.specs.Prelude.{ℕ, ◌≡◌, ◌≢◌, ◌==◌, ◌≤◌, List, Some, OnOk, true, false, map};
 ghost use Rattle.std.specs.Io.KnownBytes.{Appends};
 ghost use Rattle.clap.specs.Words.{Text};
 ghost use Rattle.command_line.specs.Requests.{is_request};
+ghost use Rattle.filter.specs.Fault.{status_of};
+ghost use Rattle.filter.specs.declared.fault.FilterFault.{FilterFault};
 ghost use Rattle.filter.specs.FilterLine.{AsksFilter, file_in};
 ghost use Rattle.filter.specs.FilterRuns.{Rejects, RunsOn, RunsOnFile, RunsWords};
 ghost use Rattle.input_text.specs.Write.{failed_after};
@@ -57,15 +59,49 @@ pub fn execute_words<F: Filter, R: Files + AllocGlobal, I: Input, O: Output, E: 
     ensures quiet { result ≡ 0 → faults.new ≡ faults.old }
 {
     match filter_order(rt.alloc(), text, words) {
-        Ok(order) => run_order(filter, text.name, rt, order, input, output, faults),
+        Ok(order) => run_order(filter, text, rt, order, input, output, faults),
         Err(fault) => answer(rt.alloc(), text.name, fault, output, faults),
+    }
+}
+
+/// Runs a filter with these texts on an input, and returns the exit status, 0 to 6.
+///
+/// `flags` says which flags are set. `source` is the name of the input in fault lines. If the status
+/// is not 0, the reason is written to `faults`.
+pub fn execute<F: Filter, I: Input, O: Output, E: Write>(
+    filter: &F,
+    text: FilterText<'_>,
+    alloc: Global,
+    flags: FilterFlags,
+    source: &str,
+    input: &mut I,
+    output: &mut O,
+    faults: &mut E,
+) -> u8
+    requires reads { I.failed input.old ≡ false }
+    requires writes { O.failed output.old ≡ false }
+    ensures most { result ≤ 6 }
+    ensures done { result ≡ 0
+        → F.filters flags (I.left input.old) (I.left input.new) (O.held output.old)
+        (O.held output.new) }
+    // Any other status is that of the fault with which it failed: 4 exactly if a write or a flush
+    // did.
+    ensures failed { result ≢ 0 → (fault : FilterFault) × (result ≡ status_of fault)
+        × F.fails flags fault (I.left input.old) (I.left input.new) (O.held output.old)
+        (O.held output.new) }
+    ensures unwritten { O.failed output.new ≡ (result == 4) }
+    ensures quiet { result ≡ 0 → faults.new ≡ faults.old }
+{
+    match filter.run(alloc, flags, input, output) {
+        Ok(()) => 0,
+        Err(fault) => fault.report(text, source, faults),
     }
 }
 
 /// Runs a filter on the file of an order, or on standard input.
 fn run_order<F: Filter, R: Files + AllocGlobal, I: Input, O: Output, E: Write>(
     filter: &F,
-    program: &str,
+    text: FilterText<'_>,
     rt: &R,
     order: FilterOrder,
     input: &mut I,
@@ -84,15 +120,24 @@ fn run_order<F: Filter, R: Files + AllocGlobal, I: Input, O: Output, E: Write>(
 {
     let flags = order.flags;
     match order.file {
-        Some(file) => run_on_file(filter, program, rt, flags, file, output, faults),
-        None => { filter.execute(rt.alloc(), flags, STANDARD_INPUT, input, output, faults) }
+        Some(file) => run_on_file(filter, text, rt, flags, file, output, faults),
+        None => execute(
+            filter,
+            text,
+            rt.alloc(),
+            flags,
+            STANDARD_INPUT,
+            input,
+            output,
+            faults,
+        ),
     }
 }
 
 /// Runs a filter on a file.
 fn run_on_file<F: Filter, R: Files + AllocGlobal, O: Output, E: Write>(
     filter: &F,
-    program: &str,
+    text: FilterText<'_>,
     rt: &R,
     flags: FilterFlags,
     file: FileName,
@@ -107,7 +152,9 @@ fn run_on_file<F: Filter, R: Files + AllocGlobal, O: Output, E: Write>(
     ensures quiet { result ≡ 0 → faults.new ≡ faults.old }
 {
     match open_file(rt, &file) {
-        Ok(mut input) => filter.execute(
+        Ok(mut input) => execute(
+            filter,
+            text,
             rt.alloc(),
             flags,
             file.as_str(),
@@ -115,7 +162,7 @@ fn run_on_file<F: Filter, R: Files + AllocGlobal, O: Output, E: Write>(
             output,
             faults,
         ),
-        Err(why) => StartFault::of_opening(file, why).report(program, faults),
+        Err(why) => StartFault::of_opening(file, why).report(text.name, faults),
     }
 }
 

@@ -20,6 +20,8 @@ pub struct FilterText<'a> {
     pub about: &'a str,
     /// What it reads, and an example; they follow the arguments.
     pub details: &'a str,
+    /// What a line that it reads is called in fault lines.
+    pub line: &'a str,
     /// The flag that it has, if it has one.
     pub flag: Option<FilterFlag<'a>>,
     /// A second flag.

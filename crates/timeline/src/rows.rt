@@ -1,14 +1,15 @@
 //! The rows of a picture: the strip of packets and messages, and a lane for each decoder.
 ghost use Rattle.std.specs.Prelude.{◌≡◌, ◌≤◌, ◌+◌, ◌*◌, ◌++◌, ◌∷◌, [], IfErr, IfOk, length};
 ghost use Rattle.std.specs.Vec.{vec_len};
-ghost use Rattle.trace.specs.declared.fault.DrawFault.TheVariants.{NoMemory};
+ghost use Rattle.filter.specs.declared.fault.FilterFault.TheVariants.{NoMemory};
 ghost use Rattle.timeline.specs.Rows.{is_known, is_shown, lane_rows, lanes_of, row_if, rows_in, rows_of, strip, with_lane};
 
 use crate::event::Event;
 use crate::levels::{is_named, is_parsed};
 use crate::row::{Kind, Part, Row};
+use filter::FilterFault;
 use std::alloc::Global;
-use trace::{DrawFault, Name, Seen};
+use trace::{Name, Seen};
 
 /// The possible rows of a lane.
 const KINDS: [Kind; 26] = [
@@ -47,7 +48,7 @@ fn is_known(lanes: &[Seen], name: &Name) -> bool
 }
 
 /// Adds a lane if an event shows a decoder that has none.
-fn add_lane(lanes: &mut Vec<Seen>, event: &Event) -> Result<(), DrawFault>
+fn add_lane(lanes: &mut Vec<Seen>, event: &Event) -> Result<(), FilterFault>
     ensures lanes { IfOk result (λ _. lanes.new.items ≡ with_lane lanes.old.items event.now) }
     ensures few { IfOk result (λ _. vec_len lanes.new ≤ vec_len lanes.old + 1) }
     ensures fault { IfErr result (λ e. e ≡ NoMemory) }
@@ -64,7 +65,7 @@ fn add_lane(lanes: &mut Vec<Seen>, event: &Event) -> Result<(), DrawFault>
 
 /// Returns the decoders that events show, in the order in which they are first shown, each in the
 /// state shown then.
-fn lanes_of(alloc: Global, events: &[Event]) -> Result<Vec<Seen>, DrawFault>
+fn lanes_of(alloc: Global, events: &[Event]) -> Result<Vec<Seen>, FilterFault>
     ensures lanes { IfOk result (λ v. v.items ≡ lanes_of events.now) }
     ensures few { IfOk result (λ v. vec_len v ≤ length events.now) }
     ensures fault { IfErr result (λ e. e ≡ NoMemory) }
@@ -83,7 +84,12 @@ fn is_shown(lane: &Seen, events: &[Event], kind: Kind) -> bool
     events.iter().any(|event| is_parsed(lane, kind, event))
 }
 
-fn add_row(rows: &mut Vec<Row>, lane: &Seen, events: &[Event], kind: &Kind) -> Result<(), DrawFault>
+fn add_row(
+    rows: &mut Vec<Row>,
+    lane: &Seen,
+    events: &[Event],
+    kind: &Kind,
+) -> Result<(), FilterFault>
     ensures rows { IfOk result
         (λ _. rows.new.items
         ≡ rows.old.items
@@ -104,7 +110,7 @@ fn add_rows(
     lane: &Seen,
     events: &[Event],
     kinds: &[Kind],
-) -> Result<(), DrawFault>
+) -> Result<(), FilterFault>
     ensures rows { IfOk result
         (λ _. rows.new.items ≡ rows.old.items ++ rows_in lane.now events.now kinds.now) }
     ensures few { IfOk result (λ _. vec_len rows.new ≤ vec_len rows.old + length kinds.now) }
@@ -116,7 +122,7 @@ fn add_rows(
     Ok(())
 }
 
-fn add_part(rows: &mut Vec<Row>, part: Part) -> Result<(), DrawFault>
+fn add_part(rows: &mut Vec<Row>, part: Part) -> Result<(), FilterFault>
     ensures rows { IfOk result (λ _. rows.new.items ≡ rows.old.items ++ Row.Strip part ∷ []) }
     ensures few { IfOk result (λ _. vec_len rows.new ≤ vec_len rows.old + 1) }
     ensures fault { IfErr result (λ e. e ≡ NoMemory) }
@@ -126,7 +132,7 @@ fn add_part(rows: &mut Vec<Row>, part: Part) -> Result<(), DrawFault>
 }
 
 /// Adds the parts of the strip of packets and messages.
-fn add_strip(rows: &mut Vec<Row>) -> Result<(), DrawFault>
+fn add_strip(rows: &mut Vec<Row>) -> Result<(), FilterFault>
     ensures rows { IfOk result (λ _. rows.new.items ≡ rows.old.items ++ strip) }
     ensures few { IfOk result (λ _. vec_len rows.new ≤ vec_len rows.old + 6) }
     ensures fault { IfErr result (λ e. e ≡ NoMemory) }
@@ -140,7 +146,7 @@ fn add_strip(rows: &mut Vec<Row>) -> Result<(), DrawFault>
 }
 
 /// Adds the rows of each lane.
-fn add_lanes(rows: &mut Vec<Row>, lanes: &[Seen], events: &[Event]) -> Result<(), DrawFault>
+fn add_lanes(rows: &mut Vec<Row>, lanes: &[Seen], events: &[Event]) -> Result<(), FilterFault>
     ensures rows { IfOk result
         (λ _. rows.new.items ≡ rows.old.items ++ lane_rows events.now lanes.now) }
     ensures few { IfOk result (λ _. vec_len rows.new ≤ vec_len rows.old + 26 * length lanes.now) }
@@ -153,7 +159,7 @@ fn add_lanes(rows: &mut Vec<Row>, lanes: &[Seen], events: &[Event]) -> Result<()
 }
 
 /// Returns the rows of a picture, from the top.
-pub(crate) fn rows_of(alloc: Global, events: &[Event]) -> Result<Vec<Row>, DrawFault>
+pub(crate) fn rows_of(alloc: Global, events: &[Event]) -> Result<Vec<Row>, FilterFault>
     ensures rows { IfOk result (λ v. v.items ≡ rows_of events.now) }
     ensures few { IfOk result (λ v. length v.items ≤ 6 + 26 * length events.now) }
     ensures fault { IfErr result (λ e. e ≡ NoMemory) }

@@ -5,10 +5,9 @@ use Rattle.std.specs.Prelude.{Result, Ok, Err, OnOk, IfErr, IsErrAnd}
 use Rattle.std.specs.Option.{option_to_list}
 use Rattle.std.specs.Io.KnownBytes.{Appends, Consumes, IsAtEnd}
 use Rattle.std.specs.Str.Lines.{lines}
-use Rattle.trace.specs.declared.fault.DrawFault.{DrawFault}
-use Rattle.trace.specs.declared.fault.DrawFault.TheVariants.{Unreadable, Output, BadLine, TooLong, NoMemory}
-use Rattle.trace.specs.Drawn.{DrawsInput, FailsInput, IsBroken, IsRefusal, RefusesInput}
-use Rattle.trace.specs.Fault.{Refuses}
+use Rattle.filter.specs.declared.fault.FilterFault.{FilterFault}
+use Rattle.filter.specs.declared.fault.FilterFault.TheVariants.{Unreadable, Output, BadLine, TooLong, NoMemory}
+use Rattle.trace.specs.Drawn.{DrawsInput, FailsInput, IsBroken, IsRefusal, Refuses, RefusesInput}
 use Rattle.input_text.specs.Read.{ReadsMost}
 use Rattle.trace.specs.Text.{TextParses}
 use Rattle.trace.specs.Parsed.{FailsAt}
@@ -44,17 +43,17 @@ no_longer text new bytes read =
 short_text : (text : List ℕ) (new : Option (List ℕ)) (bytes : List ℕ) → ReadsMost (Some text) new 16777217 bytes → length text ≤ 16777216 → text ≡ bytes
 short_text text new bytes read short = whole text new bytes read (omega (arith, short, no_longer text new bytes read))
 
-passed_up : {B : Type 0} (result : Result B DrawFault) (e : DrawFault) (P : DrawFault → Type 0) → IsErrAnd result (λ f. f ≡ e) → P e → IsErrAnd result P
+passed_up : {B : Type 0} (result : Result B FilterFault) (e : FilterFault) (P : FilterFault → Type 0) → IsErrAnd result (λ f. f ≡ e) → P e → IsErrAnd result P
 passed_up (Ok a) e P is holds = is
 passed_up (Err f) e P is holds = subst P (sym is) holds
 
-if_err : {B : Type 0} (result : Result B DrawFault) (P : DrawFault → Type 0) → IsErrAnd result P → IfErr result P
+if_err : {B : Type 0} (result : Result B FilterFault) (P : FilterFault → Type 0) → IsErrAnd result P → IfErr result P
 if_err (Ok a) P is = tt
 if_err (Err e) P is = is
 
 module _ {A : Type 0} (Parses : List ℕ → Option A → Type 0) where
   -- the input read has the fault of the text
-  same_fault : (text : List ℕ) (new : Option (List ℕ)) (bytes : List ℕ) (fault e : DrawFault) → ReadsMost (Some text) new 16777217 bytes → Refuses Parses text fault → Refuses Parses bytes e → e ≡ fault
+  same_fault : (text : List ℕ) (new : Option (List ℕ)) (bytes : List ℕ) (fault e : FilterFault) → ReadsMost (Some text) new 16777217 bytes → Refuses Parses text fault → Refuses Parses bytes e → e ≡ fault
   same_fault text new bytes TooLong TooLong read refused found = refl
   same_fault text new bytes TooLong (BadLine number) read refused found = absurd (let same : length text ≡ length bytes = ap length (whole text new bytes read found.0) in omega (arith, same, refused, found.0))
   same_fault text new bytes (BadLine number) TooLong read refused found = absurd (omega (arith, refused.0, found, no_longer text new bytes read))
@@ -68,7 +67,7 @@ module _ {A : Type 0} (Parses : List ℕ → Option A → Type 0) where
   same_fault text new bytes fault NoMemory read refused found = absurd found
 
   -- and a text without a fault has results
-  no_fault : (text : List ℕ) (new : Option (List ℕ)) (bytes : List ℕ) (things : List A) (fault : DrawFault) → ReadsMost (Some text) new 16777217 bytes → TextParses Parses bytes things → Refuses Parses text fault → ⊥
+  no_fault : (text : List ℕ) (new : Option (List ℕ)) (bytes : List ℕ) (things : List A) (fault : FilterFault) → ReadsMost (Some text) new 16777217 bytes → TextParses Parses bytes things → Refuses Parses text fault → ⊥
   no_fault text new bytes things TooLong read item refused = let same : length text ≡ length bytes = ap length (whole text new bytes read item.0) in omega (arith, same, refused, item.0)
   no_fault text new bytes things (BadLine number) read item refused = never_both Parses (lines bytes) number things (subst (λ (bs : List ℕ). FailsAt Parses (lines bs) number) (whole text new bytes read item.0) refused.1) item.1
   no_fault text new bytes things Unreadable read item refused = refused
@@ -81,18 +80,18 @@ module _ {A : Type 0} (Parses : List ℕ → Option A → Type 0) where
       (bytes, things, read.taken, at_end old new bytes read item.0, item, subst (λ (ps : List A). Appends old_output new_output (drawn ps)) same appended)
   draws drawn (Err e) old new bytes things those old_output new_output read item same appended = tt
 
-  pub refuses : {B : Type 0} (up : Result B DrawFault) (e : DrawFault) (old new : Option (List ℕ)) (bytes : List ℕ) (output : Option (List ℕ)) → IsErrAnd up (λ f. f ≡ e) → ReadsMost old new 16777217 bytes → (e ≡ NoMemory) ⊎ Refuses Parses bytes e
+  pub refuses : {B : Type 0} (up : Result B FilterFault) (e : FilterFault) (old new : Option (List ℕ)) (bytes : List ℕ) (output : Option (List ℕ)) → IsErrAnd up (λ f. f ≡ e) → ReadsMost old new 16777217 bytes → (e ≡ NoMemory) ⊎ Refuses Parses bytes e
       → RefusesInput Parses old up output output
   refuses up e None new bytes output is read why = tt
   refuses up e (Some text) new bytes output is read why = λ fault refused.
       (refl, passed_up up e (IsRefusal fault) is (elim why [ inl memory ↦ inr (inr memory) | inr found ↦ inl (same_fault text new bytes fault e read refused found) ]))
 
-  pub refuses_none : {B : Type 0} (result : Result B DrawFault) (old new : Option (List ℕ)) (bytes : List ℕ) (things : List A) (old_output new_output : Option (List ℕ)) → ReadsMost old new 16777217 bytes → TextParses Parses bytes things
+  pub refuses_none : {B : Type 0} (result : Result B FilterFault) (old new : Option (List ℕ)) (bytes : List ℕ) (things : List A) (old_output new_output : Option (List ℕ)) → ReadsMost old new 16777217 bytes → TextParses Parses bytes things
       → RefusesInput Parses old result old_output new_output
   refuses_none result None new bytes things old_output new_output read item = tt
   refuses_none result (Some text) new bytes things old_output new_output read item = λ fault refused. absurd (no_fault text new bytes things fault read item refused)
 
-  pub fails : {B : Type 0} (up : Result B DrawFault) (e : DrawFault) (old new : Option (List ℕ)) (bytes : List ℕ) → IsErrAnd up (λ f. f ≡ e) → ReadsMost old new 16777217 bytes → ((things : List A) → TextParses Parses bytes things → e ≡ NoMemory)
+  pub fails : {B : Type 0} (up : Result B FilterFault) (e : FilterFault) (old new : Option (List ℕ)) (bytes : List ℕ) → IsErrAnd up (λ f. f ≡ e) → ReadsMost old new 16777217 bytes → ((things : List A) → TextParses Parses bytes things → e ≡ NoMemory)
       → FailsInput Parses old up
   fails up e None new bytes is read why = tt
   fails up e (Some text) new bytes is read why = λ things item.

@@ -2,5 +2,4 @@ pub mod Node
 pub mod Parsed
 pub mod Traffic
 pub mod Drawn
-pub mod Fault
 pub mod Text

@@ -1,7 +1,7 @@
 -- The state of the decoder of a line (own), word by word. A word ends at the next space.
 use Rattle.std.specs.Prelude.{ℕ, ◌+◌, ◌==◌, ◌||◌, ◌&&◌, nat_le, nat_eq, not, Bool, true, false, if◌then◌else◌, List, [], ◌∷◌, Option, Some, None, codes, length, take, drop}
 use Rattle.std.specs.List.{list_all, position_or_len, slice_index, starts_with}
-use Rattle.std.specs.Str.{byte, bytes_eq}
+use Rattle.std.specs.Str.{bytes_eq}
 use Rattle.dcc_packet.specs.Address.{is_legal}
 use Rattle.dcc_packet.specs.Module.{is_module}
 use Rattle.dcc_packet.specs.declared.address.Address.{Address}

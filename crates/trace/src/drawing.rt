@@ -1,11 +1,10 @@
 //! The interface of a drawing program.
 ghost use Rattle.std.specs.Prelude.{◌≡◌, ◌⊎◌, ◌≤◌, ℕ, Bool, true, false, List, Option, Ok, IfErr, IfOk, OnOk, length};
 ghost use Rattle.std.specs.Io.KnownBytes.{Appends};
-ghost use Rattle.trace.specs.Fault.{is_unwritten};
-ghost use Rattle.trace.specs.declared.fault.DrawFault.TheVariants.{NoMemory, Output};
+ghost use Rattle.filter.specs.Fault.{is_unwritten};
+ghost use Rattle.filter.specs.declared.fault.FilterFault.TheVariants.{NoMemory, Output};
 
-use crate::fault::DrawFault;
-use filter::FilterText;
+use filter::{FilterFault, FilterText};
 use input_text::Output;
 use std::alloc::Global;
 
@@ -30,9 +29,6 @@ pub trait Drawing {
     /// The texts of the program's command line. Its fault lines begin with the name.
     fn text(&self) -> FilterText<'static>;
 
-    /// The kind of line that must not have a fault, as fault lines name it.
-    fn line(&self) -> &'static str;
-
     /// Parses a line. Returns `None` if the line is not one that is drawn.
     fn read(&self, line: &[u8]) -> Result<Option<Self::Item>, BadLine>
         ensures item { IfOk result (λ item. parses line.now item) }
@@ -44,7 +40,7 @@ pub trait Drawing {
         alloc: Global,
         item: &[Self::Item],
         output: &mut O,
-    ) -> Result<(), DrawFault>
+    ) -> Result<(), FilterFault>
         requires few { length item.now ≤ 16777216 }
         requires writes { O.failed output.old ≡ false }
         ensures text { OnOk result

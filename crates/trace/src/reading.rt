@@ -1,11 +1,11 @@
 //! Parsing the lines of a text.
 ghost use Rattle.std.specs.Prelude.{ℕ, ◌≡◌, ◌⊎◌, ◌≤◌, List, IfErr, IfOk, MatchResult, length};
-ghost use Rattle.trace.specs.declared.fault.DrawFault.TheVariants.{NoMemory};
-ghost use Rattle.trace.specs.Fault.{Refuses};
+ghost use Rattle.filter.specs.declared.fault.FilterFault.TheVariants.{NoMemory};
+ghost use Rattle.trace.specs.Drawn.{Refuses};
 ghost use Rattle.trace.specs.Text.{TextParses};
 
 use crate::drawing::Drawing;
-use crate::fault::DrawFault;
+use filter::FilterFault;
 use std::alloc::Global;
 use text::cut_line;
 
@@ -20,7 +20,7 @@ pub(crate) fn read_lines<D: Drawing>(
     alloc: Global,
     drawing: &D,
     text: &[u8],
-) -> Result<Vec<D::Item>, DrawFault>
+) -> Result<Vec<D::Item>, FilterFault>
     ensures item { IfOk result (λ v. TextParses D.parses text.now v.items) }
     ensures few { IfOk result (λ v. length v.items ≤ 16777216) }
     ensures exact { (things : List D.Item) → TextParses D.parses text.now things
@@ -28,7 +28,7 @@ pub(crate) fn read_lines<D: Drawing>(
     ensures fault { IfErr result (λ e. (e ≡ NoMemory) ⊎ Refuses D.parses text.now e) }
 {
     if text.len() > LONGEST_TEXT {
-        return Err(DrawFault::TooLong);
+        return Err(FilterFault::TooLong);
     }
     let mut things = Vec::new(alloc);
     let mut number = 0u64;
@@ -37,11 +37,11 @@ pub(crate) fn read_lines<D: Drawing>(
         let (line, after) = cut_line(rest);
         number += 1;
         let Ok(item) = drawing.read(line) else {
-            return Err(DrawFault::BadLine(number));
+            return Err(FilterFault::BadLine(number));
         };
         if let Some(thing) = item {
             if things.push(thing).is_err() {
-                return Err(DrawFault::NoMemory);
+                return Err(FilterFault::NoMemory);
             }
         }
         rest = after;

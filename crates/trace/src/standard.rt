@@ -1,37 +1,36 @@
 //! A drawing program as a filter.
-ghost use Rattle.trace.specs.Drawn.{DrawsInput};
+ghost use Rattle.trace.specs.Drawn.{DrawsInput, FailsToDraw};
 
 use crate::drawing::Drawing;
-use crate::run::execute;
-use filter::{Filter, FilterFlags, FilterText, run_filter};
+use crate::run::draw;
+use filter::{Filter, FilterFault, FilterFlags, FilterText, run_filter};
 use input_text::{Input, Output};
 use std::alloc::Global;
-use std::io::Write;
 use std::process::ExitCode;
 
 /// Draws the lines of an input.
 #[derive(Drop)]
-struct DrawingFilter<'a, D> {
-    drawing: &'a D,
+pub struct DrawingFilter<'a, D> {
+    pub drawing: &'a D,
 }
 
 impl<D: Drawing> Filter for DrawingFilter<'_, D> {
     ghost filters = { λ _. DrawsInput D.parses D.drawn };
 
+    ghost fails = { λ _. FailsToDraw D.parses };
+
     fn text(&self) -> FilterText<'static> {
         self.drawing.text()
     }
 
-    fn execute<I: Input, O: Output, E: Write>(
+    fn run<I: Input, O: Output>(
         &self,
         alloc: Global,
         _flags: FilterFlags,
-        source: &str,
         input: &mut I,
         output: &mut O,
-        faults: &mut E,
-    ) -> u8 {
-        execute(self.drawing, alloc, source, input, output, faults)
+    ) -> Result<(), FilterFault> {
+        draw(self.drawing, alloc, input, output)
     }
 }
 

@@ -2,17 +2,18 @@
 ghost use Rattle.std.specs.Prelude.{ℕ, false, ◌≡◌, ◌+◌, ◌*◌, ◌<◌, ◌≤◌, ◌^◌, ◌⊎◌, Some, true, IfErr, IfOk, OnOk, length, sum};
 ghost use Rattle.std.specs.Io.KnownBytes.{Appends};
 ghost use Rattle.half_bits.specs.Halves.{halves_of};
-ghost use Rattle.trace.specs.Fault.{is_unwritten};
-ghost use Rattle.trace.specs.declared.fault.DrawFault.TheVariants.{NoMemory, Output};
+ghost use Rattle.filter.specs.Fault.{is_unwritten};
+ghost use Rattle.filter.specs.declared.fault.FilterFault.TheVariants.{NoMemory, Output};
 ghost use Rattle.track_signal.specs.Dump.{change_text, changes_from, changes_text, dump_of, idle_halves, sent_halves, stamp};
 
 use dcc_packet::{Packet, idle};
+use filter::FilterFault;
 use half_bits::halves;
 use input_text::{Output, put_all};
 use std::alloc::Global;
 use std::io;
 use std::io::Write;
-use trace::{DrawFault, Turn, turns_since};
+use trace::{Turn, turns_since};
 
 /// The header before the first time stamp: the unit of time and the one wire.
 const HEADER: &[u8] =
@@ -64,7 +65,7 @@ fn write_packet<O: Output>(
     start: u64,
     text: &mut Vec<u8>,
     output: &mut O,
-) -> Result<u64, DrawFault>
+) -> Result<u64, FilterFault>
     requires end { start + 13800 < 2 ^ 64 }
     requires writes { O.failed output.old ≡ false }
     ensures text { OnOk result
@@ -76,20 +77,20 @@ fn write_packet<O: Output>(
     ensures unwritten { O.failed output.new ≡ is_unwritten result }
 {
     text.clear();
-    let end = draw_packet(packet, start, text).map_err(|_| DrawFault::NoMemory)?;
+    let end = draw_packet(packet, start, text).map_err(|_| FilterFault::NoMemory)?;
     put_all(output, text.as_slice())?;
     Ok(end)
 }
 
 /// Writes the last time stamp by one write: `text` is cleared, and the stamp written into it first.
-fn write_end<O: Output>(time: u64, text: &mut Vec<u8>, output: &mut O) -> Result<(), DrawFault>
+fn write_end<O: Output>(time: u64, text: &mut Vec<u8>, output: &mut O) -> Result<(), FilterFault>
     requires { O.failed output.old ≡ false }
     ensures text { OnOk result (Appends (O.held output.old) (O.held output.new) (stamp time)) }
     ensures fault { IfErr result (λ e. (e ≡ Output) ⊎ (e ≡ NoMemory)) }
     ensures unwritten { O.failed output.new ≡ is_unwritten result }
 {
     text.clear();
-    write_stamp(time, text).map_err(|_| DrawFault::NoMemory)?;
+    write_stamp(time, text).map_err(|_| FilterFault::NoMemory)?;
     Ok(put_all(output, text.as_slice())?)
 }
 
@@ -99,7 +100,7 @@ fn write_idle<O: Output>(
     start: u64,
     text: &mut Vec<u8>,
     output: &mut O,
-) -> Result<u64, DrawFault>
+) -> Result<u64, FilterFault>
     requires end { start + 13800 * count < 2 ^ 64 }
     requires writes { O.failed output.old ≡ false }
     ensures text { OnOk result
@@ -125,7 +126,7 @@ fn write_sent<O: Output>(
     start: u64,
     text: &mut Vec<u8>,
     output: &mut O,
-) -> Result<u64, DrawFault>
+) -> Result<u64, FilterFault>
     requires end { start + 13800 < 2 ^ 64 }
     requires writes { O.failed output.old ≡ false }
     ensures text { OnOk result
@@ -147,7 +148,7 @@ pub(crate) fn draw_turns<O: Output>(
     alloc: Global,
     turns: &[Turn],
     output: &mut O,
-) -> Result<(), DrawFault>
+) -> Result<(), FilterFault>
     requires few { length turns.now ≤ 16777216 }
     requires writes { O.failed output.old ≡ false }
     ensures text { OnOk result
@@ -156,7 +157,7 @@ pub(crate) fn draw_turns<O: Output>(
     ensures unwritten { O.failed output.new ≡ is_unwritten result }
 {
     let Ok(mut text) = Vec::with_capacity(alloc, ROOM) else {
-        return Err(DrawFault::NoMemory);
+        return Err(FilterFault::NoMemory);
     };
     put_all(output, HEADER)?;
     let mut time = 0;

@@ -4,10 +4,10 @@ ghost use Rattle.trace.specs.Traffic.{Parses};
 ghost use Rattle.track_signal.specs.Dump.{dump_of};
 
 use crate::drawing::draw_turns;
-use filter::FilterText;
+use filter::{FilterFault, FilterText};
 use input_text::Output;
 use std::alloc::Global;
-use trace::{BadLine, DrawFault, Drawing, Turn, turn_in};
+use trace::{BadLine, Drawing, Turn, turn_in};
 
 /// The signal on the rails. It is written packet by packet.
 pub struct TrackSignal;
@@ -26,13 +26,10 @@ impl Drawing for TrackSignal {
             name: "track_signal",
             about: "Writes the signal on the rails as a value change dump (VCD) for wave viewers",
             details: "It reads the packets that station and lbserver --track print: lines that begin with track. It skips the other lines.\n\nExample: station replay --roster layout.toml < session.script | track_signal > session.vcd",
+            line: "track line",
             flag: None,
             second_flag: None,
         }
-    }
-
-    fn line(&self) -> &'static str {
-        "track line"
     }
 
     fn read(&self, line: &[u8]) -> Result<Option<Turn>, BadLine> {
@@ -44,7 +41,7 @@ impl Drawing for TrackSignal {
         alloc: Global,
         turns: &[Turn],
         output: &mut O,
-    ) -> Result<(), DrawFault> {
+    ) -> Result<(), FilterFault> {
         draw_turns(alloc, turns, output)
     }
 }

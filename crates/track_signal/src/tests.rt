@@ -5,11 +5,12 @@ mod lines;
 mod memory;
 
 use crate::TrackSignal;
+use filter::{Filter, FilterFlags, execute};
 use input_text::{Input, Output};
 use std::alloc::Global;
 use std::io::Write;
 use test_support::{Program, Streams};
-use trace::execute;
+use trace::DrawingFilter;
 
 impl Program for TrackSignal {
     fn name(&self) -> &'static str {
@@ -22,6 +23,22 @@ impl Program for TrackSignal {
         on: Streams<'_, I, O, E>,
     ) -> u8 {
         let Streams(input, output, faults) = on;
-        execute(&TrackSignal, alloc, "-", input, output, faults)
+        let filter = DrawingFilter {
+            drawing: &TrackSignal,
+        };
+        let flags = FilterFlags {
+            first: false,
+            second: false,
+        };
+        execute(
+            &filter,
+            filter.text(),
+            alloc,
+            flags,
+            "-",
+            input,
+            output,
+            faults,
+        )
     }
 }

@@ -1,4 +1,3 @@
-use Rattle.std.proofs.Common.{◌∙◌}
 use Rattle.explain.proofs.Captures.{end, next}
 use Rattle.explain.proofs.Cuts.{empty}
 use Rattle.explain.specs.Captures.{capture_text}

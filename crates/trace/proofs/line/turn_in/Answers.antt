@@ -1,6 +1,5 @@
-use Rattle.std.proofs.Common.{◌≡◌, ◌∙◌, true, Option, Ok, Some, ap, sym}
+use Rattle.std.proofs.Common.{◌≡◌, ◌∙◌, true, Ok, Some, ap, sym}
 use Rattle.trace.specs.Traffic.{is_of_turn}
-use Rattle.trace.specs.declared.turn.Turn.{Turn}
 use Rattle.trace.proofs.Turns.{one_turn}
 use Rattle.trace.proofs.line.turn_in.Goals as goal
 

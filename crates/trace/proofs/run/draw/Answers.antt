@@ -1,9 +1,9 @@
 use Rattle.std.proofs.Common.{◌≡◌, ◌⊎◌, List, ℕ, subst, sym}
-use Rattle.trace.specs.declared.fault.DrawFault.TheVariants.{NoMemory}
-use Rattle.trace.specs.Fault.{Refuses}
+use Rattle.filter.specs.declared.fault.FilterFault.TheVariants.{NoMemory}
+use Rattle.trace.specs.Drawn.{Refuses}
 use Rattle.trace.specs.Text.{TextParses}
 use Rattle.trace.proofs.Whole.{draws, fails, refuses, refuses_none}
-use Rattle.trace.proofs.run.draw_input.Goals as goal
+use Rattle.trace.proofs.run.draw.Goals as goal
 
 pub returns-in_err-things-clause-refused : goal.returns-in_err-things-clause-refused
 returns-in_err-things-clause-refused g c =
