@@ -2,13 +2,14 @@
 ghost use Rattle.std.specs.Prelude.{◌≡◌, ◌<◌, ◌≤◌, ℕ, IfNone, IfSome, IsTrue, false, Some, None, length, not, slice_index};
 ghost use Rattle.service_mode.specs.declared.packet.ServicePacket.TheVariants.{Direct};
 ghost use Rattle.service_mode.specs.Reading.{packet_of};
-ghost use Rattle.service_mode.specs.Spelling.{is_legal};
+ghost use Rattle.service_mode.specs.Spelling.{is_legal, is_legal_packet};
 ghost use Rattle.decoder_cv.specs.Listed.{value_in};
-ghost use Rattle.cv_memory.specs.Changes.{is_changed};
+ghost use Rattle.cv_memory.specs.Changes.{change_between, change_by, is_changed, reset_between, stored_between};
 ghost use Rattle.cv_memory.specs.Filed.{filed_value};
-ghost use Rattle.cv_memory.specs.Hearing.{acknowledges, heard, is_acknowledged, is_read_only, is_reset, stored, values_after, with_bit};
+ghost use Rattle.cv_memory.specs.Hearing.{acknowledges, heard, is_acknowledged, is_obeyed, is_read_only, is_reset, stored, values_after, with_bit};
 ghost use Rattle.cv_memory.specs.History.{unheard};
 
+use crate::cv_change::CvChange;
 use decoder_cv::CvPair;
 use service_mode::{Instruction, ServicePacket, read};
 use std::marker::Model;
@@ -126,6 +127,19 @@ impl CvMemory {
         self.values[usize::from(address)] != self.filed[usize::from(address)]
     }
 
+    /// What the decoder changes of its variables when it hears this packet.
+    pub fn change_by(&self, packet: ServicePacket) -> Option<CvChange>
+        requires { IsTrue (is_legal_packet packet) }
+        ensures { result ≡ change_by self.now (Some packet) }
+    {
+        match packet {
+            ServicePacket::Direct(instruction) if self.obeys(instruction) => {
+                self.change_of(instruction)
+            }
+            _ => None,
+        }
+    }
+
     /// Hears the bytes of a packet. Returns whether the decoder acknowledges it.
     pub fn hear(&mut self, packet: &[u8]) -> bool
         ensures state { self.new ≡ heard self.old (packet_of packet.now) }
@@ -156,12 +170,65 @@ impl CvMemory {
             self.last = None;
             return false;
         }
-        let obeys = match self.last {
-            Some(last) => last.is_same(instruction),
-            None => false,
-        };
+        let obeys = self.obeys(instruction);
         self.last = Some(instruction);
         if obeys { self.obey(instruction) } else { false }
+    }
+
+    /// Whether the decoder obeys an instruction that comes now.
+    fn obeys(&self, instruction: Instruction) -> bool
+        ensures { result ≡ is_obeyed self.now instruction }
+    {
+        match self.last {
+            Some(last) => self.service && last.is_same(instruction),
+            None => false,
+        }
+    }
+
+    /// What an instruction that is obeyed changes.
+    fn change_of(&self, instruction: Instruction) -> Option<CvChange>
+        requires { IsTrue (is_legal instruction) }
+        ensures { result
+            ≡ change_between instruction self.now.values (values_after self.now instruction) }
+    {
+        match instruction {
+            Instruction::VerifyByte { .. } | Instruction::VerifyBit { .. } => None,
+            Instruction::WriteByte { address, value } => {
+                if is_reset(address, value) {
+                    self.change_of_reset()
+                } else {
+                    self.change_of_store(address, value)
+                }
+            }
+            Instruction::WriteBit { address, bit, on } => {
+                let value = with_bit(self.values[usize::from(address)], bit, on);
+                self.change_of_store(address, value)
+            }
+        }
+    }
+
+    /// What a reset changes.
+    fn change_of_reset(&self) -> Option<CvChange>
+        ensures { result ≡ reset_between self.now.values self.now.filed }
+    {
+        if as_bytes(&self.values) == as_bytes(&self.filed) {
+            None
+        } else {
+            Some(CvChange::Reset)
+        }
+    }
+
+    /// What it changes to store a value.
+    fn change_of_store(&self, address: u16, value: u8) -> Option<CvChange>
+        requires { address < 1024 }
+        ensures { result
+            ≡ stored_between address self.now.values (stored self.now.values address value) }
+    {
+        if is_read_only(address) || self.values[usize::from(address)] == value {
+            None
+        } else {
+            Some(CvChange::Stored { address, value })
+        }
     }
 
     /// Obeys an instruction. Returns whether the decoder acknowledges it.

@@ -1,7 +1,8 @@
 //! The laws of a decoder on the programming track, each as a function that does nothing and ensures it.
-ghost use Rattle.std.specs.Prelude.{◌≡◌, ◌≢◌, ◌&&◌, ℕ, Bool, List, Option, Some, false, slice_index, true};
+ghost use Rattle.std.specs.Prelude.{◌≡◌, ◌≢◌, ◌&&◌, ℕ, Bool, List, None, Option, Some, false, slice_index, true};
 ghost use Rattle.service_mode.specs.declared.instruction.Instruction.{Instruction};
 ghost use Rattle.service_mode.specs.declared.packet.ServicePacket.{ServicePacket};
+ghost use Rattle.cv_memory.specs.Changes.{after_some_change, change_by};
 ghost use Rattle.cv_memory.specs.Hearing.{CvState, acknowledges, heard, is_acknowledged, is_obeyed, is_read_only};
 ghost use Rattle.cv_memory.specs.History.{address_of, after_all, in_service, resets, some_packet, was_last};
 
@@ -28,4 +29,13 @@ pub fn others_never_change()
     ensures unnamed { (d : CvState) (p : Option ServicePacket)
         → ((i : Instruction) → p ≢ some_packet i) → (heard d p).values ≡ d.values }
     ensures file { (d : CvState) (p : Option ServicePacket) → (heard d p).filed ≡ d.filed }
+{}
+
+/// The change that a packet makes gives the variables their new values, and a packet that changes none
+/// makes none.
+pub fn changes_are_complete()
+    ensures values { (d : CvState) (p : Option ServicePacket)
+        → (heard d p).values ≡ after_some_change d.filed d.values (change_by d p) }
+    ensures unchanged { (d : CvState) (p : Option ServicePacket)
+        → (heard d p).values ≡ d.values → change_by d p ≡ None }
 {}
