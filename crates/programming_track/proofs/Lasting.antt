@@ -3,6 +3,7 @@ use Rattle.std.proofs.Common.{◌≡◌, ◌⊎◌, ℕ, zero, suc, ◌+◌, ◌
 use Rattle.std.proofs.lemmas.Bool.{cases_lt}
 use Rattle.std.proofs.lemmas.List.Sums.{sum_by-cons}
 use Rattle.service_mode.specs.declared.packet.ServicePacket.{ServicePacket}
+use Rattle.cv_memory.specs.declared.cv_change.CvChange.{CvChange}
 use Rattle.cv_memory.specs.Hearing.{CvState}
 use Rattle.programmer.specs.declared.task_result.TaskResult.{TaskResult}
 use Rattle.programmer.specs.declared.task_state.TaskState.{TaskState}
@@ -11,8 +12,8 @@ use Rattle.programmer.specs.declared.task_state.Next.TheVariants.{Continued, Fin
 use Rattle.programmer.specs.Machine.{packet_of, next_of, after_next, result_in}
 use Rattle.programming_track.specs.declared.packet_end.PacketEnd.{PacketEnd}
 use Rattle.programming_track.specs.declared.programming_track.ProgrammingTrack.{ProgrammingTrack}
-use Rattle.programming_track.specs.Completes.{Completes, before_results, packets_in, results_in}
-use Rattle.programming_track.specs.Tasks.{TaskRun, run_behind, run_from, load_of, run_of, decoder_after}
+use Rattle.programming_track.specs.Completes.{Completes, before_results, changes_in, packets_in, results_in}
+use Rattle.programming_track.specs.Tasks.{TaskRun, before_changes, change_on, run_behind, run_from, load_of, run_of, decoder_after}
 use Rattle.programming_track.specs.Time.{elapsed_by, ends_within, micros_of, time_of}
 use Rattle.programming_track.specs.Track.{waiting}
 use Rattle.programming_track.proofs.Times.{adds, at, end, ends_add, ends_none, ends_one, next, none_some, passes, same_some}
@@ -33,6 +34,9 @@ module _ (r : TaskState) (last : TaskResult) (f : Bool) (d : Option CvState) whe
 
   abbrev behind : Option CvState
   behind = decoder_after d (packet_of r)
+
+  abbrev change : Option CvChange
+  change = change_on d (packet_of r)
 
   abbrev drawn : Next
   drawn = next_of r (load_of f d (packet_of r))
@@ -61,7 +65,7 @@ module _ (r : TaskState) (last : TaskResult) (f : Bool) (d : Option CvState) whe
   shorter k total m less sum = omega arith
 
   -- the last packet
-  last_packet : (ended : TaskResult) → drawn ≡ Finished ended → Completes start (record { result = ended; sent = packet_of r ∷ []; decoder = behind })
+  last_packet : (ended : TaskResult) → drawn ≡ Finished ended → Completes start (record { result = ended; sent = packet_of r ∷ []; changes = before_changes change []; decoder = behind })
   last_packet ended is =
       let m = micros_of (packet_of r) in
       let some = positive (packet_of r) in
@@ -72,6 +76,7 @@ module _ (r : TaskState) (last : TaskResult) (f : Bool) (d : Option CvState) whe
             packet_time total 0 m refl some sum
             ∙ ap (λ (x : Next). track_by last x f behind) is;
         packets = ap packets_in (packet_ends total 0 m refl some sum);
+        changes = ap changes_in (packet_ends total 0 m refl some sum);
         results =
             ap results_in (packet_ends total 0 m refl some sum)
             ∙ ap (λ (x : Next). before_results (result_in x) []) is;
@@ -85,7 +90,7 @@ module _ (r : TaskState) (last : TaskResult) (f : Bool) (d : Option CvState) whe
   parts_of k m high = omega arith
 
   -- a packet with others behind it
-  not_last : (x : TaskState) (run : TaskRun) → drawn ≡ Continued x → Completes (waiting (Some x) last f behind) run → Completes start (record { result = run.result; sent = packet_of r ∷ run.sent; decoder = run.decoder })
+  not_last : (x : TaskState) (run : TaskRun) → drawn ≡ Continued x → Completes (waiting (Some x) last f behind) run → Completes start (record { result = run.result; sent = packet_of r ∷ run.sent; changes = before_changes change run.changes; decoder = run.decoder })
   not_last x run is rest =
       let m = micros_of (packet_of r) in
       let some = positive (packet_of r) in
@@ -100,6 +105,10 @@ module _ (r : TaskState) (last : TaskResult) (f : Bool) (d : Option CvState) whe
             ap packets_in (packet_ends total more m refl some sum)
             ∙ ap (λ (y : Next). packet_of r ∷ packets_in (ends_within more (track_by last y f behind))) is
             ∙ ap (λ (xs : List ServicePacket). packet_of r ∷ xs) rest.packets;
+        changes =
+            ap changes_in (packet_ends total more m refl some sum)
+            ∙ ap (λ (y : Next). before_changes change (changes_in (ends_within more (track_by last y f behind)))) is
+            ∙ ap (before_changes change) rest.changes;
         results =
             ap results_in (packet_ends total more m refl some sum)
             ∙ ap (λ (y : Next). before_results (result_in y) (results_in (ends_within more (track_by last y f behind)))) is
@@ -114,11 +123,11 @@ module _ (r : TaskState) (last : TaskResult) (f : Bool) (d : Option CvState) whe
             ∙ ap (λ (y : Next). before_results (result_in y) (results_in (ends_within (k - m) (track_by last y f behind)))) is
             ∙ rest.before (k - m) (after high)
 
-  by_rest : (n : ℕ) (run : TaskRun) (x : TaskState) (found : Option TaskRun) → drawn ≡ Continued x → run_of n x f behind ≡ found → ((other : TaskRun) → run_of n x f behind ≡ Some other → Completes (waiting (Some x) last f behind) other) → run_behind (packet_of r) found ≡ Some run → Completes start run
+  by_rest : (n : ℕ) (run : TaskRun) (x : TaskState) (found : Option TaskRun) → drawn ≡ Continued x → run_of n x f behind ≡ found → ((other : TaskRun) → run_of n x f behind ≡ Some other → Completes (waiting (Some x) last f behind) other) → run_behind (packet_of r) change found ≡ Some run → Completes start run
   by_rest n run x None is e rest h = absurd (none_some run h)
   by_rest n run x (Some other) is e rest h = subst (Completes start) (same_some _ _ h) (not_last x other is (rest other e))
 
-  by_next : (n : ℕ) (run : TaskRun) (next : Next) → drawn ≡ next → ((x : TaskState) (other : TaskRun) → run_of n x f behind ≡ Some other → Completes (waiting (Some x) last f behind) other) → run_behind (packet_of r) (run_from next (λ x. run_of n x f behind) behind) ≡ Some run → Completes start run
+  by_next : (n : ℕ) (run : TaskRun) (next : Next) → drawn ≡ next → ((x : TaskState) (other : TaskRun) → run_of n x f behind ≡ Some other → Completes (waiting (Some x) last f behind) other) → run_behind (packet_of r) change (run_from next (λ x. run_of n x f behind) behind) ≡ Some run → Completes start run
   by_next n run (Finished ended) is rest h = subst (Completes start) (same_some _ _ h) (last_packet ended is)
   by_next n run (Continued x) is rest h = by_rest n run x (run_of n x f behind) is refl (rest x) h
 

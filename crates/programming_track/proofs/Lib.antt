@@ -5,3 +5,4 @@ pub mod Lasting
 pub mod Short
 pub mod Few
 pub mod Benches
+pub mod Reporting

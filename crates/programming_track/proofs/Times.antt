@@ -9,7 +9,7 @@ use Rattle.programmer.specs.declared.task_state.TaskState.{TaskState}
 use Rattle.programmer.specs.Machine.{ProgrammerState, after_load, next_packet, packet_of, result_after}
 use Rattle.programming_track.specs.declared.packet_end.PacketEnd.{PacketEnd}
 use Rattle.programming_track.specs.declared.programming_track.ProgrammingTrack.{ProgrammingTrack}
-use Rattle.programming_track.specs.Tasks.{load_of, decoder_after}
+use Rattle.programming_track.specs.Tasks.{change_on, load_of, decoder_after}
 use Rattle.programming_track.specs.Time.{elapsed_by, end_by, ended_by, ends_in_tick, ends_within, micros_of, tick}
 
 pub none_some : {A : Type 0} (x : A) → None ≡ Some x → ⊥
@@ -121,7 +121,7 @@ module _ (last : TaskResult) (f : Bool) (d : Option CvState) where
   after u packet load = at (after_load u last load) f (decoder_after d packet) 0
 
   abbrev pub end_with : Option TaskState → ServicePacket → Load → PacketEnd
-  end_with u packet load = record { packet = packet; result = result_after u load }
+  end_with u packet load = record { packet = packet; result = result_after u load; change = change_on d packet }
 
   positive : (a b : ℕ) → a ≡ max 1 b → suc (a - 1) ≡ a
   positive a b is = omega arith

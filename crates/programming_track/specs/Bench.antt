@@ -80,6 +80,14 @@ mounted_as name b = mounted_at (decoder_named b name) b
 abbrev pub first_mounted : BenchState → BenchState
 first_mounted b = if length b.memories == 0 then b else put_on 0 b
 
+-- the name of the decoder that stands on the track, if one does
+abbrev pub name_of : List ArrayString → (mounted : Option ℕ) → Option ArrayString
+name_of names None = None
+name_of names (Some index) = slice_get names index
+
+abbrev pub name_on : BenchState → Option ArrayString
+name_on b = name_of b.names b.mounted
+
 -- the variables of a decoder, wherever it stands
 abbrev pub is_index : Option ℕ → (index : ℕ) → Bool
 is_index None index = false

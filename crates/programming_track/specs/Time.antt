@@ -9,7 +9,7 @@ use Rattle.programmer.specs.Machine.{packet_of, after_packet, result_after}
 use Rattle.programmer.specs.Requests.{is_legal_result}
 use Rattle.programming_track.specs.declared.packet_end.PacketEnd.{PacketEnd}
 use Rattle.programming_track.specs.declared.programming_track.ProgrammingTrack.{ProgrammingTrack}
-use Rattle.programming_track.specs.Tasks.{load_of, decoder_after}
+use Rattle.programming_track.specs.Tasks.{change_on, load_of, decoder_after}
 
 -- S-9.2.3: at least 20 ones before a packet, which on the main track has 14; a one takes 116 microseconds
 abbrev pub micros_of : ServicePacket → ℕ
@@ -32,6 +32,7 @@ abbrev pub end_by : ProgrammingTrack → TaskState → PacketEnd
 end_by s state = record {
   packet = packet_of state;
   result = result_after s.programmer.under_way (load_of s.fails s.decoder (packet_of state));
+  change = change_on s.decoder (packet_of state);
 }
 
 -- its bytes can be made, and the message of its result

@@ -1,5 +1,6 @@
 //! The laws of tasks in time, each as a function that does nothing and ensures it.
-ghost use Rattle.std.specs.Prelude.{◌≡◌, ◌<◌, ◌≤◌, ◌+◌, ◌*◌, ◌++◌, ℕ, Bool, List, Option, Some, false, length, slice_index, true};
+ghost use Rattle.std.specs.Prelude.{◌≡◌, ◌<◌, ◌≤◌, ◌+◌, ◌*◌, ◌++◌, ℕ, Bool, List, Option, Some, false, length, option_map, slice_index, true};
+ghost use Rattle.cv_memory.specs.Changes.{after_changes};
 ghost use Rattle.cv_memory.specs.Hearing.{CvState, is_read_only, is_reset};
 ghost use Rattle.programmer.specs.declared.task.Task.{Task};
 ghost use Rattle.service_mode.specs.declared.packet.ServicePacket.{ServicePacket};
@@ -8,7 +9,7 @@ ghost use Rattle.programmer.specs.declared.task_state.TaskState.{TaskState};
 ghost use Rattle.programmer.specs.Requests.{task_of};
 ghost use Rattle.programming_track.specs.declared.programming_track.ProgrammingTrack.{ProgrammingTrack};
 ghost use Rattle.programming_track.specs.Bench.{BenchState, IsBench, dismounted, mounted_as, values_of};
-ghost use Rattle.programming_track.specs.Completes.{Completes};
+ghost use Rattle.programming_track.specs.Completes.{Completes, changes_in};
 ghost use Rattle.programming_track.specs.Outcomes.{begins_bit_read, begins_bit_write, begins_read, begins_task, begins_write, bit_read, bit_refused, bit_written, empty, read, read_failed, refused, reset, with_decoder, with_failures, without_decoder, write_failed, write_sent, written};
 ghost use Rattle.programming_track.specs.Tasks.{TaskRun, run_of};
 ghost use Rattle.programming_track.specs.Time.{elapsed_by, ends_within, time_of};
@@ -21,6 +22,18 @@ pub fn time_adds_up()
     ensures ends { (a b : ℕ) (s : ProgrammingTrack)
         → ends_within (a + b) s ≡ ends_within a s ++ ends_within b (elapsed_by a s) }
 {}
+
+/// The changes of a time, one after another, give the variables of the decoder the values that they have
+/// after it.
+pub fn changes_are_reported()
+    ensures { (micros : ℕ) (s : ProgrammingTrack)
+        → option_map (λ d. d.values) (elapsed_by micros s).decoder
+        ≡ option_map (λ d. after_changes d.filed d.values (changes_in (ends_within micros s)))
+        s.decoder }
+{
+    cv_memory::changes_are_complete();
+    cv_memory::others_never_change();
+}
 
 /// A task takes exactly as long as its packets, whatever it comes to.
 pub fn tasks_take_their_time()
@@ -38,6 +51,7 @@ pub fn reads_return_the_value()
 
 /// A write of a byte ends with the value stored, and all others unchanged; of a variable that is read
 /// only without an acknowledgment, and all unchanged. A write of 8 to CV8 gives the values of the file.
+/// Either is one change, or none if nothing differs after it.
 pub fn writes_store_the_value()
     ensures stored { (message : List ℕ) (d : CvState) (last : TaskResult)
         → begins_write message ≡ true → is_read_only (task_of message).address ≡ false

@@ -10,10 +10,10 @@ mod programming_bench;
 mod programming_track;
 
 pub use laws::{
-    bits_are_read_and_written, decoders_keep_their_variables, ends_are_few, failures_are_reported,
-    reads_return_the_value, tasks_are_short, tasks_take_their_time, time_adds_up,
-    without_a_decoder, writes_store_the_value,
+    bits_are_read_and_written, changes_are_reported, decoders_keep_their_variables, ends_are_few,
+    failures_are_reported, reads_return_the_value, tasks_are_short, tasks_take_their_time,
+    time_adds_up, without_a_decoder, writes_store_the_value,
 };
-pub use packet_end::{MAX_ENDS, PacketEnd, PacketEnds};
-pub use programming_bench::{DecoderName, MAX_DECODERS, ProgrammingBench};
+pub use packet_end::{DecoderName, MAX_ENDS, NamedChange, PacketEnd, PacketEnds};
+pub use programming_bench::{MAX_DECODERS, ProgrammingBench};
 pub use programming_track::ProgrammingTrack;

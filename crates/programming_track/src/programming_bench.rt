@@ -6,12 +6,12 @@ ghost use Rattle.arrayvec.specs.ArrayString.{ArrayString as ArrayStringValue};
 ghost use Rattle.programmer.specs.Machine.{reply_of};
 ghost use Rattle.programmer.specs.Replies.{is_legal_reply};
 ghost use Rattle.programmer.specs.Requests.{is_for_programmer, request_in};
-ghost use Rattle.programming_track.specs.Bench.{IsBench, bare, bench_elapsed, bench_requested, decoder_named, dismounted, first_mounted, has_decoder, is_changed_at, is_index, is_changed_in, memory_of, mounted_as, name_at, next_change, number_at, put_on, value_at, value_in, with_decoder, with_failing};
+ghost use Rattle.programming_track.specs.Bench.{IsBench, bare, bench_elapsed, bench_requested, decoder_named, dismounted, first_mounted, has_decoder, is_changed_at, is_index, is_changed_in, memory_of, mounted_as, name_at, name_on, next_change, number_at, put_on, value_at, value_in, with_decoder, with_failing};
 ghost use Rattle.programming_track.specs.Time.{ends_within, is_legal_end};
 
-use crate::packet_end::PacketEnds;
+use crate::packet_end::{DecoderName, PacketEnds};
 use crate::programming_track::ProgrammingTrack;
-use arrayvec::{ArrayString, ArrayVec};
+use arrayvec::ArrayVec;
 use cv_memory::{CV_COUNT, CvMemory};
 use ln_frame::Msg;
 use programmer::TaskReply;
@@ -20,9 +20,6 @@ use std::marker::Model;
 
 /// The most decoders of a bench.
 pub const MAX_DECODERS: usize = 64;
-
-/// The name of a decoder, at most 16 bytes.
-pub type DecoderName = ArrayString<16>;
 
 /// A programming track, and decoders of which one may stand on it. Each keeps its variables when it is
 /// taken off the track and put on it again.
@@ -159,6 +156,16 @@ impl ProgrammingBench {
         ensures legal { IsTrue (list_all is_legal_end result.items) }
     {
         self.track.elapse(micros)
+    }
+
+    /// The name of the decoder that stands on the track, if one does.
+    pub fn mounted_name(&self) -> Option<DecoderName>
+        ensures { result ≡ name_on self.now }
+    {
+        match self.mounted {
+            Some(index) => Some(self.names.as_slice()[index]),
+            None => None,
+        }
     }
 
     /// The position from this one on, of the next variable that differs from the file: 1024 times the

@@ -6,12 +6,12 @@ ghost use Rattle.cv_memory.specs.Hearing.{acknowledges, heard};
 ghost use Rattle.programmer.specs.Machine.{idle, reply_of};
 ghost use Rattle.programmer.specs.Replies.{is_legal_reply};
 ghost use Rattle.programmer.specs.Requests.{is_for_programmer, request_in};
-ghost use Rattle.programming_track.specs.Tasks.{decoder_after, load_of};
+ghost use Rattle.programming_track.specs.Tasks.{change_on, decoder_after, load_of};
 ghost use Rattle.programming_track.specs.Time.{elapsed_by, ends_within, is_legal_end, micros_of};
 ghost use Rattle.programming_track.specs.Track.{at_packet_start, requested, restarted};
 
 use crate::packet_end::{PacketEnd, PacketEnds};
-use cv_memory::CvMemory;
+use cv_memory::{CvChange, CvMemory};
 use half_bits::duration_in_micros;
 use ln_frame::Msg;
 use programmer::{Load, Programmer, TaskReply};
@@ -92,11 +92,27 @@ impl ProgrammingTrack {
             }
             left -= rest;
             self.elapsed = 0;
+            let change = change_on(&self.decoder, packet);
             let load = send(&mut self.decoder, self.fails, packet);
             let result = self.programmer.step(load);
-            ends.push(PacketEnd { packet, result });
+            ends.push(PacketEnd {
+                packet,
+                result,
+                change,
+            });
         }
         ends
+    }
+}
+
+/// What a packet changes of the decoder's variables, if there is one.
+fn change_on(decoder: &Option<CvMemory>, packet: ServicePacket) -> Option<CvChange>
+    requires { IsTrue (is_legal_packet packet) }
+    ensures { result ≡ change_on decoder.now packet }
+{
+    match decoder {
+        Some(decoder) => decoder.change_by(packet),
+        None => None,
     }
 }
 

@@ -2,10 +2,11 @@ use Rattle.std.proofs.Common.{◌≡◌, ◌⊎◌, ℕ, ◌+◌, ◌-◌, ◌*�
 use Rattle.std.specs.List.{list_all}
 use Rattle.std.proofs.lemmas.Bool.{and_from}
 use Rattle.std.proofs.lemmas.List.Folds.{list_all-append}
+use Rattle.cv_memory.specs.declared.cv_change.CvChange.{CvChange}
 use Rattle.cv_memory.specs.Hearing.{CvState}
 use Rattle.programmer.specs.declared.task_result.TaskResult.{TaskResult}
 use Rattle.programmer.specs.declared.task_state.TaskState.{TaskState}
-use Rattle.programmer.specs.Machine.{ProgrammerState}
+use Rattle.programmer.specs.Machine.{ProgrammerState, result_after}
 use Rattle.programmer.specs.Requests.{is_legal_result}
 use Rattle.programming_track.specs.declared.packet_end.PacketEnd.{PacketEnd}
 use Rattle.programming_track.specs.declared.programming_track.ProgrammingTrack.{ProgrammingTrack}
@@ -53,11 +54,13 @@ packets-preserved c =
     let packet = c.in-Some.packet in
     let load = c.send-load.result in
     let items = c.packets.ends.items in
-    let one : PacketEnd = record { packet = packet; result = c.step-result.result } in
+    let change = c.change_on-change.result in
+    let one : PacketEnd = record { packet = packet; result = c.step-result.result; change = change } in
     let here : at c.step-result.new.self s.fails c.send-load.new.decoder 0 ≡ after last s.fails s.decoder u packet load =
     stepped _ _ s.fails _ _ c.step-result.ensures.state c.send-load.ensures.decoder in
     let ended : one ≡ end_with last s.fails s.decoder u packet load =
-    ap (λ (r : Option TaskResult). record { packet = packet; result = r }) c.step-result.ensures.result in
+    ap (λ (r : Option TaskResult). record { packet = packet; result = r; change = change }) c.step-result.ensures.result
+    ∙ ap (λ (x : Option CvChange). record { packet = packet; result = result_after u load; change = x }) c.change_on-change.ensures in
     let next = at c.step-result.new.self s.fails c.send-load.new.decoder 0 in
     record {
       state =
