@@ -58,7 +58,7 @@ is_course (Connects client ∷ events) bus all = cc
 is_course (Receives client byte ∷ events) bus all = cc
 is_course (Disconnects client ∷ events) bus all = cc
 is_course (Reports message ∷ events) bus all = is_course events bus all
-is_course (Programs packet ∷ events) bus all = is_course events bus all
+is_course (Programs packet change ∷ events) bus all = is_course events bus all
 is_course (Turn missed ∷ events) bus all = one_more events bus bus.remaining (is_course events (after_turn_boundary bus bus.remaining) all)
 is_course (Elapses micros missed ∷ events) bus all = passing (nat_le bus.remaining micros) events bus micros (λ later. is_course events later all)
 

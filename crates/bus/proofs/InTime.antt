@@ -52,7 +52,7 @@ event_quiet i bus (Connects client) = tt
 event_quiet i bus (Disconnects client) = tt
 event_quiet i bus (Receives client byte) = asked_quiet i client (for_station bus (request_at (client_of bus client) byte))
 event_quiet i bus (Reports message) = tt
-event_quiet i bus (Programs packet) = tt
+event_quiet i bus (Programs packet change) = tt
 event_quiet i bus (Elapses micros missed) = passing_quiet i missed (nat_le bus.remaining micros)
 event_quiet i bus (Turn missed) = tt
 
@@ -95,7 +95,7 @@ event_turns bus (Connects client) = refl
 event_turns bus (Disconnects client) = refl
 event_turns bus (Receives client byte) = asked_turns bus client (request_at (client_of bus client) byte)
 event_turns bus (Reports message) = refl
-event_turns bus (Programs packet) = refl
+event_turns bus (Programs packet change) = refl
 event_turns bus (Elapses micros missed) = passing_turns missed (packet_of_turn bus.station) (nat_le bus.remaining micros)
 event_turns bus (Turn missed) = refl
 
@@ -136,7 +136,7 @@ event_short : TurnsAreBounded → (bus : BusState) (event : Event) → All IsSho
 event_short laws bus (Connects client) = All-nil IsShort
 event_short laws bus (Disconnects client) = All-nil IsShort
 event_short laws bus (Reports message) = All-nil IsShort
-event_short laws bus (Programs packet) = All-nil IsShort
+event_short laws bus (Programs packet change) = All-nil IsShort
 event_short laws bus (Receives client byte) = asked_short bus client (request_at (client_of bus client) byte)
 event_short laws bus (Elapses micros missed) = passing_short laws bus (nat_le bus.remaining micros)
 event_short laws bus (Turn missed) = turn_short laws bus

@@ -118,7 +118,7 @@ own (Elapses micros missed ∷ events) bus i legal eight =
     (own events (after_event bus (Elapses micros missed)) i p.1 (ap length same ∙ eight))
     ∙ ap (λ (clients : List (Option (List ℕ))). messages_to_send (own_requests i (slice_index_or clients i None) events)) same
 own (Reports message ∷ events) bus i legal eight = own events bus i (and_parts (is_whole message) (list_all is_event events) legal).1 eight
-own (Programs packet ∷ events) bus i legal eight = own events bus i (and_parts (is_legal_packet packet) (list_all is_event events) legal).1 eight
+own (Programs packet change ∷ events) bus i legal eight = own events bus i (and_parts (is_legal_packet packet) (list_all is_event events) legal).1 eight
 own (Turn missed ∷ events) bus i legal eight = own events (after_event bus (Turn missed)) i legal eight
 
 -- ---- from connecting to disconnecting
@@ -160,7 +160,7 @@ visit i (Receives c byte ∷ events) rest kept stays_connected =
     ]
 visit i (Elapses micros missed ∷ events) rest kept stays_connected = visit i events rest kept stays_connected
 visit i (Reports message ∷ events) rest kept stays_connected = visit i events rest kept stays_connected
-visit i (Programs packet ∷ events) rest kept stays_connected = visit i events rest kept stays_connected
+visit i (Programs packet change ∷ events) rest kept stays_connected = visit i events rest kept stays_connected
 visit i (Turn missed ∷ events) rest kept stays_connected = visit i events rest kept stays_connected
 
 joined : (i : ℕ) (kept : Option (List ℕ)) (events : List Event) → own_requests i kept (Connects i ∷ events) ≡ own_requests i (Some []) events

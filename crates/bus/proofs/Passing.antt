@@ -60,7 +60,7 @@ passed_by laws bus (Connects client) h legal = nothing bus.remaining h.under_way
 passed_by laws bus (Disconnects client) h legal = nothing bus.remaining h.under_way
 passed_by laws bus (Receives client byte) h legal = no_time bus.remaining _ h.under_way (asked_lasting bus client (request_at (client_of bus client) byte))
 passed_by laws bus (Reports message) h legal = nothing bus.remaining h.under_way
-passed_by laws bus (Programs packet) h legal = nothing bus.remaining h.under_way
+passed_by laws bus (Programs packet change) h legal = nothing bus.remaining h.under_way
 passed_by laws bus (Turn missed) h legal = turn_passed laws bus bus.remaining (omega arith) (omega arith)
 passed_by laws bus (Elapses micros missed) h legal = micros_passed laws bus micros (nat_le bus.remaining micros) refl (leb-true micros 5796 legal) h.under_way
 

@@ -87,7 +87,7 @@ keeps laws bus (Receives client byte) h legal =
     let request : Option Request = request_at (client_of bus client) byte in
     kept_clients bus (station_after bus request) client (pending_text_at (client_of bus client) byte) h (asked_lines bus.station (for_station bus request))
 keeps laws bus (Reports message) h legal = h
-keeps laws bus (Programs packet) h legal = h
+keeps laws bus (Programs packet change) h legal = h
 keeps laws bus (Turn missed) h legal = kept_turned laws bus bus.remaining h (omega arith) (omega arith)
 keeps laws bus (Elapses micros missed) h legal = elim (cases_lt micros bus.remaining) [
   | inl less ↦ subst IsInvariant (sym (passes_on bus micros missed less)) (kept_waiting bus micros h less)
@@ -108,7 +108,7 @@ plays laws bus (Receives client byte) h legal =
     let request : Option Request = request_at (client_of bus client) byte in
     asked_station laws bus.station client (for_station bus request) h.idle (ltb-true client 8 legal) (whole_given bus request (whole_request laws (client_of bus client) byte))
 plays laws bus (Reports message) h legal = refl
-plays laws bus (Programs packet) h legal = refl
+plays laws bus (Programs packet change) h legal = refl
 plays laws bus (Turn missed) h legal = laws.turn bus.station
 plays laws bus (Elapses micros missed) h legal = elim (cases_lt micros bus.remaining) [
   | inl less ↦ ap (λ (events : List LayoutEvent). played bus.station events) (waits_for bus micros missed less) ∙ sym (ap (λ (b : BusState). b.station) (passes_on bus micros missed less))

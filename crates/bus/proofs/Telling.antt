@@ -155,7 +155,7 @@ listens i (Disconnected client) m q = refl
 listens i (Rejected client reason) m q = no_error (client == i) reason q
 listens i (Sent client message reply) m q = no_ok (client == i) message reply q
 listens i (Reported message) m q = sym (append-nil (receive_text message))
-listens i (Programmed packet) m q = refl
+listens i (Programmed packet change) m q = refl
 listens i (TurnBegan packet) m q = refl
 listens i (TurnsRequested client turns) m q = no_answer (client == i) turns q
 listens i (StatesRequested client things) m q = refl

@@ -89,7 +89,7 @@ next_there bus (Elapses micros missed) i legal eight =
     (time_stays i ends (packet_of_turn bus.station))
     (ap (λ (clients : List (Option (List ℕ))). is_some (slice_index_or clients i None)) (same_clients ends bus micros (bus.remaining - micros)))
 next_there bus (Reports message) i legal eight = refl
-next_there bus (Programs packet) i legal eight = refl
+next_there bus (Programs packet change) i legal eight = refl
 next_there bus (Turn missed) i legal eight = refl
 
 kept_eight : (bus : BusState) (event : Event) → length bus.clients ≡ 8 → length (after_event bus event).clients ≡ 8
@@ -98,7 +98,7 @@ kept_eight bus (Disconnects c) eight = length-set bus.clients c None ∙ eight
 kept_eight bus (Receives c byte) eight = length-set bus.clients c (pending_text_at (client_of bus c) byte) ∙ eight
 kept_eight bus (Elapses micros missed) eight = ap length (same_clients (nat_le bus.remaining micros) bus micros (bus.remaining - micros)) ∙ eight
 kept_eight bus (Reports message) eight = eight
-kept_eight bus (Programs packet) eight = eight
+kept_eight bus (Programs packet change) eight = eight
 kept_eight bus (Turn missed) eight = eight
 
 -- event by event

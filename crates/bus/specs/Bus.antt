@@ -44,7 +44,7 @@ is_event (Connects client) = nat_lt client 8
 is_event (Receives client byte) = nat_lt client 8
 is_event (Disconnects client) = nat_lt client 8
 is_event (Reports message) = is_whole message
-is_event (Programs packet) = is_legal_packet packet
+is_event (Programs packet change) = is_legal_packet packet
 is_event (Elapses micros missed) = nat_le micros 5796
 is_event (Turn missed) = true
 
@@ -132,7 +132,7 @@ after_event bus (Receives client byte) = record bus {
   clients = slice_set bus.clients client (pending_text_at (client_of bus client) byte);
 }
 after_event bus (Reports message) = bus
-after_event bus (Programs packet) = bus
+after_event bus (Programs packet change) = bus
 after_event bus (Elapses micros missed) = if nat_le bus.remaining micros then after_turn_boundary bus micros else record bus { remaining = bus.remaining - micros }
 after_event bus (Turn missed) = after_turn_boundary bus bus.remaining
 
@@ -142,7 +142,7 @@ outcome_of bus (Connects client) = Connected client
 outcome_of bus (Disconnects client) = Disconnected client
 outcome_of bus (Receives client byte) = outcome_of_request bus client (request_at (client_of bus client) byte)
 outcome_of bus (Reports message) = Reported message
-outcome_of bus (Programs packet) = Programmed (bytes_of packet)
+outcome_of bus (Programs packet change) = Programmed (bytes_of packet) change
 outcome_of bus (Elapses micros missed) = if nat_le bus.remaining micros then TurnBegan (packet_of_turn bus.station) else Nothing
 outcome_of bus (Turn missed) = TurnBegan (packet_of_turn bus.station)
 

@@ -30,5 +30,5 @@ abbrev pub is_time : Event → Bool
 is_time (Elapses micros missed) = true
 is_time (Turn missed) = true
 is_time (Reports message) = true
-is_time (Programs packet) = true
+is_time (Programs packet change) = true
 is_time other = false

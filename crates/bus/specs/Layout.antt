@@ -25,7 +25,7 @@ layout_event bus (Connects client) = []
 layout_event bus (Disconnects client) = []
 layout_event bus (Receives client byte) = message_events client (for_station bus (request_at (client_of bus client) byte))
 layout_event bus (Reports message) = []
-layout_event bus (Programs packet) = []
+layout_event bus (Programs packet change) = []
 layout_event bus (Elapses micros missed) = if nat_le bus.remaining micros then turn_of missed else []
 layout_event bus (Turn missed) = turn_of missed
 

@@ -27,7 +27,7 @@ own_requests i kept (Disconnects client ∷ events) = own_requests i (if client 
 own_requests i kept (Receives client byte ∷ events) =
     if client == i then option_to_list (request_at kept byte) ++ own_requests i (pending_text_at kept byte) events else own_requests i kept events
 own_requests i kept (Reports message ∷ events) = own_requests i kept events
-own_requests i kept (Programs packet ∷ events) = own_requests i kept events
+own_requests i kept (Programs packet change ∷ events) = own_requests i kept events
 own_requests i kept (Elapses micros missed ∷ events) = own_requests i kept events
 own_requests i kept (Turn missed ∷ events) = own_requests i kept events
 

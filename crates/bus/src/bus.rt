@@ -110,8 +110,9 @@ impl Bus {
             Event::Reports { message } => Outcome::Reported {
                 message: copied(message),
             },
-            Event::Programs { packet } => Outcome::Programmed {
+            Event::Programs { packet, change } => Outcome::Programmed {
                 packet: packet.packet(),
+                change: *change,
             },
             Event::Elapses { micros, missed } => self.elapse(*micros, *missed),
             Event::Turn { missed } => self.begin_turn(self.remaining, *missed),

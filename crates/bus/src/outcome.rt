@@ -9,6 +9,7 @@ use loconet_tcp::{
     DeviceAnswer, DeviceRequest, PlaceError, Placement, Reason, Text, Things, TurnsError,
     push_device, push_place, push_receive, push_sent_error, push_sent_ok, push_turns, push_version,
 };
+use programming_track::NamedChange;
 
 /// The outcome of an event on a bus. Clients are numbered from 0 to 7.
 #[derive(Drop)]
@@ -39,9 +40,11 @@ pub enum Outcome {
     Reported {
         message: Msg,
     },
-    /// A packet was sent on the programming track. Clients receive nothing.
+    /// A packet was sent on the programming track, and may have changed the variables of the decoder
+    /// there. Clients receive nothing.
     Programmed {
         packet: Packet,
+        change: Option<NamedChange>,
     },
     /// A client requested this number of turns, which follow, or was refused; it alone receives
     /// the reason. That turns have passed is not of the bus, which does not count them.

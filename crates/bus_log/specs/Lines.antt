@@ -2,12 +2,15 @@
 use Rattle.std.specs.Prelude.{ℕ, ◌+◌, ◌/◌, ◌%◌, ◌==◌, slice_index, length, Bool, true, false, ◌&&◌, not, if◌then◌else◌, nat_lt, List, [], ◌∷◌, ◌++◌, Option, Some, None, codes}
 use Rattle.std.specs.Fmt.{decimal}
 use Rattle.std.specs.Str.{bytes_eq}
+use Rattle.cv_memory.specs.declared.cv_change.CvChange.{CvChange}
+use Rattle.cv_memory.specs.declared.cv_change.CvChange.TheVariants.{Stored, Reset}
 use Rattle.dcc_packet.specs.Sent.{idle_bytes}
 use Rattle.layout_core.specs.declared.decoder_state.DecoderState.{DecoderState}
 use Rattle.layout_core.specs.DecoderStates.{decoder_line, same_decoder_state}
 use Rattle.ln_ops.specs.Message.{op_of}
 use Rattle.ln_ops.specs.declared.op.Op.{Op}
 use Rattle.ln_ops.specs.declared.op.Op.TheVariants.{LongAck, Other, SlotRead, SlotData}
+use Rattle.programming_track.specs.declared.packet_end.NamedChange.{NamedChange}
 use Rattle.railway.specs.declared.train.TrainState.{TrainState}
 use Rattle.roster.specs.Entry.{Entry}
 use Rattle.show_text.specs.Lines.{track_text}
@@ -45,12 +48,30 @@ abbrev pub packet_lines : (track : Bool) → (turn : ℕ) → Option (List ℕ) 
 packet_lines track turn None = []
 packet_lines track turn (Some packet) = if track && not (bytes_eq packet idle_bytes) then track_text turn packet ∷ [] else []
 
--- a packet of the programming track, with the turns of the main track so far, if packets are printed
+-- a packet of the programming track, with the turns of the main track so far
 abbrev pub programming_line : (turns : ℕ) → (packet : List ℕ) → List ℕ
 programming_line turns packet = codes "programming " ++ decimal turns ++ hex_words packet
 
-abbrev pub programming_lines : (track : Bool) → (turns : ℕ) → (packet : List ℕ) → List (List ℕ)
-programming_lines track turns packet = if track then programming_line turns packet ∷ [] else []
+-- what it changed of the decoder's variables: the number of one, which is its address and one, and its
+-- value; or all are as in the file
+abbrev pub change_text : CvChange → List ℕ
+change_text (Stored address value) = codes " " ++ decimal (address + 1) ++ codes " = " ++ decimal value
+change_text Reset = codes " as in the file"
+
+abbrev pub change_line : NamedChange → List ℕ
+change_line named = codes "cv " ++ named.name.bytes ++ change_text named.change
+
+abbrev pub change_lines : Option NamedChange → List (List ℕ)
+change_lines None = []
+change_lines (Some change) = change_line change ∷ []
+
+-- the packet, if packets are printed
+abbrev pub sent_lines : (track : Bool) → (turns : ℕ) → (packet : List ℕ) → List (List ℕ)
+sent_lines track turns packet = if track then programming_line turns packet ∷ [] else []
+
+-- and then the change that it made, if it made one
+abbrev pub programming_lines : (track : Bool) → (turns : ℕ) → (packet : List ℕ) → Option NamedChange → List (List ℕ)
+programming_lines track turns packet change = sent_lines track turns packet ++ change_lines change
 
 -- each decoder whose state has changed, in the roster's order
 abbrev pub changed_lines : List Entry → (before decoder_states : List DecoderState) → List (List ℕ)
@@ -113,7 +134,7 @@ exchange_lines message (Some reply) =
 
 -- The lines of an outcome: clients that connect and disconnect, each message and then its reply
 -- (none for a read of a slot), each report of a device, the packet of a turn, and the decoders that
--- it changed; and a packet of the programming track.
+-- it changed; and a packet of the programming track, and the change that it made.
 abbrev pub lines_of : (track : Bool) → List Entry → PrinterState → Outcome → (decoder_states : List DecoderState) → List (List ℕ)
 lines_of track entries before Nothing decoder_states = []
 lines_of track entries before (Connected client) decoder_states = client_line client (codes " joins") ∷ []
@@ -127,7 +148,7 @@ lines_of track entries before (Placed client answer) decoder_states = []
 lines_of track entries before (DeviceAnswered client answer) decoder_states = []
 lines_of track entries before (Sent client message reply) decoder_states = exchange_lines message reply
 lines_of track entries before (Reported message) decoder_states = sent_line message ∷ []
-lines_of track entries before (Programmed packet) decoder_states = programming_lines track before.turns packet
+lines_of track entries before (Programmed packet change) decoder_states = programming_lines track before.turns packet change
 lines_of track entries before (TurnBegan packet) decoder_states = packet_lines track (saturating_successor before.turns) packet ++ changed_lines entries before.decoder_states decoder_states
 
 -- none of these lines, if the log is quiet

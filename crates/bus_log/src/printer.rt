@@ -116,9 +116,9 @@ impl<'a> Printer<'a> {
             Outcome::Disconnected { client } => print_client(&mut self.log, *client, " leaves"),
             Outcome::Sent { message, reply, .. } => print_exchange(&mut self.log, message, reply),
             Outcome::Reported { message } => print_message(&mut self.log, message),
-            Outcome::Programmed { packet } => {
+            Outcome::Programmed { packet, change } => {
                 let track = self.verbosity.prints_packets();
-                print_programming(&mut self.log, track, self.turns, packet);
+                print_programming(&mut self.log, track, self.turns, packet, change);
             }
             Outcome::TurnBegan { packet } => self.print_turn(packet, world),
         }

@@ -64,7 +64,7 @@ another_joins false written text q t is h = h
 
 front_told : (i : ℕ) (account : Account) (outcome : Outcome) (queues : SendQueues) → Fits i account queues → Fits i (account_after_outcome i account outcome) (queues_after outcome queues)
 front_told i account Nothing queues fits q h = fits q h ∙ sym (append-nil account.text)
-front_told i account (Programmed packet) queues fits q h = fits q h ∙ sym (append-nil account.text)
+front_told i account (Programmed packet change) queues fits q h = fits q h ∙ sym (append-nil account.text)
 front_told i account (TurnBegan packet) queues fits q h = fits q h ∙ sym (append-nil account.text)
 front_told i account (Rejected client reason) queues fits q h = all_told i account (Rejected client reason) queues fits q h
 front_told i account (Sent client message reply) queues fits q h = all_told i account (Sent client message reply) queues fits q h

@@ -171,7 +171,7 @@ EndsAt turns left left' applied = TurnsFollow turns left applied × (left_at_end
 
 report_leaves : (turns left : ℕ) (event : Event) (observed : Observation) → is_report event ≡ true → (left_after turns left event observed ≡ left) × (is_from_client event ≡ false)
 report_leaves turns left (Reports message) observed is = (refl, refl)
-report_leaves turns left (Programs packet) observed is = (refl, refl)
+report_leaves turns left (Programs packet change) observed is = (refl, refl)
 report_leaves turns left (Connects client) observed is = cc
 report_leaves turns left (Receives client byte) observed is = cc
 report_leaves turns left (Disconnects client) observed is = cc
@@ -193,7 +193,7 @@ turn_leaves turns left (Receives client byte) observed is = cc
 turn_leaves turns left (Disconnects client) observed is = cc
 turn_leaves turns left (Elapses micros missed) observed is = cc
 turn_leaves turns left (Reports message) observed is = cc
-turn_leaves turns left (Programs packet) observed is = cc
+turn_leaves turns left (Programs packet change) observed is = cc
 
 step_leaves : (turns left : ℕ) (event : Event) (applied : List LoggedEvent) → is_turn event ≡ true → IsWithReports event (events_of applied) → EndsAt turns left (left - 1) applied
 step_leaves turns left event [] is are = absurd are
@@ -293,7 +293,7 @@ is_sending (Connected client) = false
 is_sending (Disconnected client) = false
 is_sending (Rejected client reason) = false
 is_sending (Reported message) = false
-is_sending (Programmed packet) = false
+is_sending (Programmed packet change) = false
 is_sending (TurnBegan packet) = false
 is_sending (TurnsRequested client count) = false
 is_sending (StatesRequested client things) = false
@@ -310,7 +310,7 @@ sending_sent programming names railway now nodes (Connected client) = refl
 sending_sent programming names railway now nodes (Disconnected client) = refl
 sending_sent programming names railway now nodes (Rejected client reason) = refl
 sending_sent programming names railway now nodes (Reported message) = refl
-sending_sent programming names railway now nodes (Programmed packet) = refl
+sending_sent programming names railway now nodes (Programmed packet change) = refl
 sending_sent programming names railway now nodes (TurnBegan packet) = refl
 sending_sent programming names railway now nodes (TurnsRequested client count) = refl
 sending_sent programming names railway now nodes (StatesRequested client things) = refl
@@ -331,7 +331,7 @@ sent_owes turns (Connected client) owed eight names = inl refl
 sent_owes turns (Disconnected client) owed eight names = inl refl
 sent_owes turns (Rejected client reason) owed eight names = inl refl
 sent_owes turns (Reported message) owed eight names = inl refl
-sent_owes turns (Programmed packet) owed eight names = inl refl
+sent_owes turns (Programmed packet change) owed eight names = inl refl
 sent_owes turns (TurnBegan packet) owed eight names = inl refl
 sent_owes turns (TurnsRequested client count) owed eight names = inl refl
 sent_owes turns (StatesRequested client things) owed eight names = inl refl
@@ -347,7 +347,7 @@ due_length turns (Connected client) owed = refl
 due_length turns (Disconnected client) owed = length-set owed client (departed (due_to owed client))
 due_length turns (Rejected client reason) owed = refl
 due_length turns (Reported message) owed = refl
-due_length turns (Programmed packet) owed = refl
+due_length turns (Programmed packet change) owed = refl
 due_length turns (TurnBegan packet) owed = refl
 due_length turns (TurnsRequested client (Ok count)) owed = length-set owed client (record { left = count; cause = Request })
 due_length turns (TurnsRequested client (Err error)) owed = refl

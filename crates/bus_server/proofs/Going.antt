@@ -150,7 +150,7 @@ none_drawn (Connects client) bus nodes losses h = refl
 none_drawn (Receives client byte) bus nodes losses h = refl
 none_drawn (Disconnects client) bus nodes losses h = refl
 none_drawn (Reports message) bus nodes losses h = refl
-none_drawn (Programs packet) bus nodes losses h = refl
+none_drawn (Programs packet change) bus nodes losses h = refl
 none_drawn (Elapses micros missed) bus nodes losses h = cc
 none_drawn (Turn missed) bus nodes losses h = cc
 
@@ -163,7 +163,7 @@ AreReports events = list_all is_report events ≡ true
 pub reports_take_none : (reports : List Event) (bus : BusState) → AreReports reports → micros_in bus reports ≡ 0
 reports_take_none [] bus are = refl
 reports_take_none (Reports message ∷ reports) bus are = omega (arith, reports_take_none reports bus are)
-reports_take_none (Programs packet ∷ reports) bus are = omega (arith, reports_take_none reports bus are)
+reports_take_none (Programs packet change ∷ reports) bus are = omega (arith, reports_take_none reports bus are)
 reports_take_none (Connects client ∷ reports) bus are = cc
 reports_take_none (Receives client byte ∷ reports) bus are = cc
 reports_take_none (Disconnects client ∷ reports) bus are = cc

@@ -168,7 +168,7 @@ nothing_due (Disconnects client) observed old new reports none h = cc
 nothing_due (Elapses micros missed) observed old new reports none h = cc
 nothing_due (Turn missed) observed old new reports none h = cc
 nothing_due (Reports message) observed old new reports none h = no_cons h.unreported.0 new.unreported (sym none ∙ h.unreported.1)
-nothing_due (Programs packet) observed old new reports none h = no_cons h.unreported.0 new.unreported (sym none ∙ h.unreported.1)
+nothing_due (Programs packet change) observed old new reports none h = no_cons h.unreported.0 new.unreported (sym none ∙ h.unreported.1)
 
 -- the event makes no device report
 abbrev pub IsSilent : Event → ServerState → Type 0

@@ -34,6 +34,7 @@ use Rattle.bus_server.specs.Observations.{Observation}
 use Rattle.service_mode.specs.declared.packet.ServicePacket.{ServicePacket}
 use Rattle.programming_track.specs.Bench.{BenchState, name_at, next_change, number_at, value_at}
 use Rattle.bus_server.specs.Placement.{answered, place_answer}
+use Rattle.programming_track.specs.declared.packet_end.NamedChange.{NamedChange}
 use Rattle.bus_server.specs.Programming.{device_answer, programmed, reply_by}
 use Rattle.bus_server.specs.SendQueue.{enqueued, is_more_than_half, queued}
 use Rattle.bus_server.specs.Rounds.{IsReadOn, IsRound, IsUnread, Reads, ReadsOn, ServesClient, ServesClients, is_read, is_reading, is_write_blocked, nth_client}
@@ -172,8 +173,8 @@ report_within client n message observed old new runs room h =
     enqueues_within client n n (Reported message) old new runs.queues (ap (λ (bus : BusState). is_some (slice_index_or bus.clients client None)) runs.bus) few
     (omega (arith, message_size next.0 message next.3, less, h.1)) room h
 
-packet_within : (client n : ℕ) (packet : ServicePacket) (observed : Observation) (old new : ServerState) → RunsEvent (Programs packet) observed old new → Within client n old → Within client n new
-packet_within client n packet observed old new runs h =
+packet_within : (client n : ℕ) (packet : ServicePacket) (change : Option NamedChange) (observed : Observation) (old new : ServerState) → RunsEvent (Programs packet change) observed old new → Within client n old → Within client n new
+packet_within client n packet change observed old new runs h =
     let next = runs.unreported in
     let less : owed old.unreported ≡ text_size next.0 + owed new.unreported = ap owed next.1 in
     let few : HasFew new = (omega (arith, less, h.3.0), subst HasFewBlocks (sym runs.railway) h.3.1) in
@@ -181,7 +182,7 @@ packet_within client n packet observed old new runs h =
 
 one_report_within : (client n : ℕ) (event : Event) (observed : Observation) (old new : ServerState) → is_report event ≡ true → RunsEvent event observed old new → n ≤ 65536 → Within client n old → Within client n new
 one_report_within client n (Reports message) observed old new reports runs room h = report_within client n message observed old new runs room h
-one_report_within client n (Programs packet) observed old new reports runs room h = packet_within client n packet observed old new runs h
+one_report_within client n (Programs packet change) observed old new reports runs room h = packet_within client n packet change observed old new runs h
 one_report_within client n (Connects i) observed old new reports runs room h = cc
 one_report_within client n (Receives i byte) observed old new reports runs room h = cc
 one_report_within client n (Disconnects i) observed old new reports runs room h = cc
@@ -216,7 +217,7 @@ clients_in_time (Connects client) bus h = cc
 clients_in_time (Receives client byte) bus h = cc
 clients_in_time (Disconnects client) bus h = cc
 clients_in_time (Reports message) bus h = refl
-clients_in_time (Programs packet) bus h = refl
+clients_in_time (Programs packet change) bus h = refl
 clients_in_time (Turn missed) bus h = refl
 clients_in_time (Elapses micros missed) bus h = turn_clients (nat_le bus.remaining micros) _ _ refl
 
@@ -225,7 +226,7 @@ queues_in_time (Connects client) old h none = cc
 queues_in_time (Receives client byte) old h none = cc
 queues_in_time (Disconnects client) old h none = cc
 queues_in_time (Reports message) old h none = cc
-queues_in_time (Programs packet) old h none = cc
+queues_in_time (Programs packet change) old h none = cc
 queues_in_time (Turn missed) old h none = refl
 queues_in_time (Elapses micros missed) old h none = turn_queues old.programming old.names old.railway (nat_le old.bus.remaining micros) _ old.queues
 
@@ -239,7 +240,7 @@ turn_is_step (Connects client) is = cc
 turn_is_step (Receives client byte) is = cc
 turn_is_step (Disconnects client) is = cc
 turn_is_step (Reports message) is = cc
-turn_is_step (Programs packet) is = cc
+turn_is_step (Programs packet change) is = cc
 turn_is_step (Elapses micros missed) is = cc
 
 piece_is_step : (event : Event) → is_piece event ≡ true → IsStep event
@@ -249,7 +250,7 @@ piece_is_step (Connects client) is = cc
 piece_is_step (Receives client byte) is = cc
 piece_is_step (Disconnects client) is = cc
 piece_is_step (Reports message) is = cc
-piece_is_step (Programs packet) is = cc
+piece_is_step (Programs packet change) is = cc
 
 time_within : Limits → (client n : ℕ) (event : Event) (observed : Observation) (old new : ServerState) → IsStep event → RunsEvent event observed old new → n + 2790 ≤ 65536 → Within client n old → Within client (n + 2790) new
 time_within same client n event observed old new step runs room h =

@@ -31,6 +31,8 @@ use Rattle.programmer.specs.declared.reply.TaskReply.TheVariants.{Accepted as Ta
 use Rattle.programmer.specs.declared.task_result.TaskResult.{TaskResult}
 use Rattle.programmer.specs.Machine.{reply_of}
 use Rattle.programmer.specs.Requests.{request_in}
+use Rattle.arrayvec.specs.ArrayString.{ArrayString}
+use Rattle.programming_track.specs.declared.packet_end.NamedChange.{NamedChange}
 use Rattle.programming_track.specs.declared.packet_end.PacketEnd.{PacketEnd}
 use Rattle.programming_track.specs.Bench.{BenchState}
 use Rattle.bus.specs.declared.event.Event.{Event}
@@ -45,7 +47,7 @@ use Rattle.bus_server.specs.declared.device_report.DeviceReport.{DeviceReport}
 use Rattle.bus_server.specs.declared.device_report.DeviceReport.TheVariants.{Sensor, Packet, Ended}
 use Rattle.bus_server.specs.DeviceReports.{of_ends, of_result, of_sensors, event_of, is_legal_report, sensors_in}
 use Rattle.bus_server.specs.Placement.{answered, places}
-use Rattle.bus_server.specs.Programming.{ends_elapsed, programmed, reply_by, reply_or}
+use Rattle.bus_server.specs.Programming.{decoder_on, ends_elapsed, programmed, reply_by, reply_or}
 use Rattle.bus_server.specs.Sensors.{asks_sensors, reports_of_time, full_report, next_turn, power_of, railway_elapsed, railway_placed, reports_due, reports_elapsed}
 use Rattle.bus_server.specs.TransportEvents.{Accepted, NonePending, PeerClosed, Polled, ReadBlocked, Received, Refused, ServerClosed, TransportEvent, WriteBlocked, Written}
 use Rattle.bus_server.specs.Track.{RunsTrack}
@@ -88,7 +90,7 @@ claim_parts first second h = and_parts (list_all (λ one. is_no_claim one.observ
 sensors-append : (first second : List DeviceReport) → sensors_in (first ++ second) ≡ sensors_in first ++ sensors_in second
 sensors-append [] second = refl
 sensors-append (Sensor report ∷ first) second = ap (λ (all : List SensorReport). report ∷ all) (sensors-append first second)
-sensors-append (Packet packet ∷ first) second = sensors-append first second
+sensors-append (Packet packet change ∷ first) second = sensors-append first second
 sensors-append (Ended ended ∷ first) second = sensors-append first second
 
 sensors-of : (reports : List SensorReport) → sensors_in (of_sensors reports) ≡ reports
@@ -99,18 +101,18 @@ none-of_result : (ended : Option TaskResult) → sensors_in (of_result ended) �
 none-of_result None = refl
 none-of_result (Some ended) = refl
 
-none-of_ends : (ends : List PacketEnd) → sensors_in (of_ends ends) ≡ []
-none-of_ends [] = refl
-none-of_ends (one ∷ ends) =
-    sensors-append (of_result one.result) (of_ends ends)
-    ∙ ap₂ (λ (these those : List SensorReport). these ++ those) (none-of_result one.result) (none-of_ends ends)
+none-of_ends : (decoder : Option ArrayString) (ends : List PacketEnd) → sensors_in (of_ends decoder ends) ≡ []
+none-of_ends decoder [] = refl
+none-of_ends decoder (one ∷ ends) =
+    sensors-append (of_result one.result) (of_ends decoder ends)
+    ∙ ap₂ (λ (these those : List SensorReport). these ++ those) (none-of_result one.result) (none-of_ends decoder ends)
 
 sensors-elapsed : (railway : Option RailwayState) (programming : Option BenchState) (micros : ℕ) (power : Power) (nodes : List Node)
     → sensors_in (reports_of_time railway programming micros power nodes) ≡ reports_elapsed railway micros power nodes
 sensors-elapsed railway programming micros power nodes =
     let reports : List SensorReport = reports_elapsed railway micros power nodes in
-    sensors-append (of_sensors reports) (of_ends (ends_elapsed programming micros))
-    ∙ ap₂ (λ (these those : List SensorReport). these ++ those) (sensors-of reports) (none-of_ends (ends_elapsed programming micros))
+    sensors-append (of_sensors reports) (of_ends (decoder_on programming) (ends_elapsed programming micros))
+    ∙ ap₂ (λ (these those : List SensorReport). these ++ those) (sensors-of reports) (none-of_ends (decoder_on programming) (ends_elapsed programming micros))
     ∙ append-nil reports
 
 -- One event.
@@ -250,7 +252,7 @@ report_tells : SensorLaws → (report : DeviceReport) (rest : List DeviceReport)
 unfolding message_in
 report_tells laws (Sensor report) rest sensor level legal =
     ap (λ (read : Option SensorReport). level_after (sensors_in rest) sensor (level_after (option_to_list read ++ []) sensor level)) (laws.read report.sensor report.occupied legal)
-report_tells laws (Packet packet) rest sensor level legal = refl
+report_tells laws (Packet packet change) rest sensor level legal = refl
 report_tells laws (Ended ended) rest sensor level legal = refl
 
 -- a message that is reported tells it
@@ -261,10 +263,10 @@ reported laws report message rest sensor level legal is =
     subst (λ (told : List ℕ). level_after (sensors_in rest) sensor (level_by (told ∷ []) sensor level) ≡ level_after (sensors_in (report ∷ rest)) sensor level) (ap message_in is) (report_tells laws report rest sensor level legal)
 
 -- a packet is no report of a sensor
-no_sensor : (report : DeviceReport) (packet : ServicePacket) (rest : List DeviceReport) → event_of report ≡ Programs packet → sensors_in (report ∷ rest) ≡ sensors_in rest
-no_sensor (Sensor report) packet rest is = cc
-no_sensor (Packet sent) packet rest is = refl
-no_sensor (Ended ended) packet rest is = cc
+no_sensor : (report : DeviceReport) (packet : ServicePacket) (change : Option NamedChange) (rest : List DeviceReport) → event_of report ≡ Programs packet change → sensors_in (report ∷ rest) ≡ sensors_in rest
+no_sensor (Sensor report) packet change rest is = cc
+no_sensor (Packet sent changed) packet change rest is = refl
+no_sensor (Ended ended) packet change rest is = cc
 
 event_known : SensorLaws → (block sensor : ℕ) (level : Bool) (event : Event) (observed : Observation) (old new : ServerState) → RunsEvent event observed old new → is_no_claim observed ≡ true → IsKnown block sensor level old
     → IsKnown block sensor (level_of_event sensor observed level) new
@@ -295,10 +297,10 @@ event_known laws block sensor level (Reports message) observed old new runs quie
           ∙ reported laws next.0 message new.unreported sensor level next.2 next.3
           ∙ sym (ap (λ (d : List DeviceReport). level_after (sensors_in d) sensor level) next.1) ∙ h.4,
     )
-event_known laws block sensor level (Programs packet) observed old new runs quiet h =
+event_known laws block sensor level (Programs packet change) observed old new runs quiet h =
     let next = runs.unreported in
-    known_still block sensor level observed new (untold sensor level observed (outcome_in old (Programs packet)) new.nodes new.railway runs.saw refl)
-    (h.0, runs.railway ∙ h.1, h.2, h.3, sym (ap (λ (d : List SensorReport). level_after d sensor level) (ap sensors_in next.1 ∙ no_sensor next.0 packet new.unreported next.3)) ∙ h.4)
+    known_still block sensor level observed new (untold sensor level observed (outcome_in old (Programs packet change)) new.nodes new.railway runs.saw refl)
+    (h.0, runs.railway ∙ h.1, h.2, h.3, sym (ap (λ (d : List SensorReport). level_after d sensor level) (ap sensors_in next.1 ∙ no_sensor next.0 packet change new.unreported next.3)) ∙ h.4)
 event_known laws block sensor level (Elapses micros missed) observed old new runs quiet h =
     known_still block sensor level observed new
     (untold sensor level observed (outcome_in old (Elapses micros missed)) new.nodes new.railway runs.saw (time_tells old.programming old.names old.railway (nat_le old.bus.remaining micros) (packet_of_turn old.bus.station) sensor level))

@@ -40,7 +40,7 @@ event_heard (Disconnects client) bus nodes old new h lose = record { all = refl;
 event_heard (Receives client byte) bus nodes old new h lose = record { all = message_heard client (for_station bus (request_at (client_of bus client) byte)); share = ap (λ (l : Losses). l.lose) h ∙ lose }
 event_heard (Elapses micros missed) bus nodes old new h lose = elapsed_heard (nat_le bus.remaining micros) nodes missed old new h lose
 event_heard (Reports message) bus nodes old new h lose = record { all = refl; share = ap (λ (l : Losses). l.lose) h ∙ lose }
-event_heard (Programs packet) bus nodes old new h lose = record { all = refl; share = ap (λ (l : Losses). l.lose) h ∙ lose }
+event_heard (Programs packet change) bus nodes old new h lose = record { all = refl; share = ap (λ (l : Losses). l.lose) h ∙ lose }
 event_heard (Turn missed) bus nodes old new h lose = turn_heard nodes missed old new h lose
 
 pub all_heard : (events : List Event) (bus : BusState) (nodes : ℕ) (old new : Losses) → AreDrawn events bus nodes old new → old.lose ≡ 0 → list_all is_missed_by_none (layout_events bus events) ≡ true

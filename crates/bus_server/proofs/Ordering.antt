@@ -20,7 +20,7 @@ no_both false h k = cc
 
 out_leaves : (turns n : ℕ) (event : Event) (observed : Observation) → (is_report event || follows n event) ≡ true → left_after turns n event observed ≤ n
 out_leaves turns n (Reports message) observed out = omega arith
-out_leaves turns n (Programs packet) observed out = omega arith
+out_leaves turns n (Programs packet change) observed out = omega arith
 out_leaves turns n (Turn missed) observed out = omega arith
 out_leaves turns n (Connects client) observed out = cc
 out_leaves turns n (Receives client byte) observed out = cc
@@ -48,7 +48,7 @@ fewer_left : (turns n : ℕ) (event : Event) (observed : Observation) → follow
 fewer_left turns zero (Turn missed) observed is = cc
 fewer_left turns (suc n) (Turn missed) observed is = omega arith
 fewer_left turns n (Reports message) observed is = cc
-fewer_left turns n (Programs packet) observed is = cc
+fewer_left turns n (Programs packet change) observed is = cc
 fewer_left turns n (Connects client) observed is = cc
 fewer_left turns n (Receives client byte) observed is = cc
 fewer_left turns n (Disconnects client) observed is = cc
@@ -59,13 +59,13 @@ fewer_left turns n (Elapses micros missed) observed is = cc
 follow_same : (n : ℕ) (event other : Event) → follows n event ≡ true → follows n other ≡ true → unmissed event ≡ unmissed other
 follow_same n (Turn missed) (Turn lost) is are = refl
 follow_same n (Turn missed) (Reports message) is are = cc
-follow_same n (Turn missed) (Programs packet) is are = cc
+follow_same n (Turn missed) (Programs packet change) is are = cc
 follow_same n (Turn missed) (Connects client) is are = cc
 follow_same n (Turn missed) (Receives client byte) is are = cc
 follow_same n (Turn missed) (Disconnects client) is are = cc
 follow_same n (Turn missed) (Elapses micros lost) is are = cc
 follow_same n (Reports message) other is are = cc
-follow_same n (Programs packet) other is are = cc
+follow_same n (Programs packet change) other is are = cc
 follow_same n (Connects client) other is are = cc
 follow_same n (Receives client byte) other is are = cc
 follow_same n (Disconnects client) other is are = cc
@@ -98,7 +98,7 @@ start_same false false false true n event other more others made those old a b i
 none_follows : (n : ℕ) (event : Event) → n ≡ 0 → follows n event ≡ false
 none_follows n (Turn missed) none = ap (λ (k : ℕ). nat_lt 0 k) none
 none_follows n (Reports message) none = refl
-none_follows n (Programs packet) none = refl
+none_follows n (Programs packet change) none = refl
 none_follows n (Connects client) none = refl
 none_follows n (Receives client byte) none = refl
 none_follows n (Disconnects client) none = refl
@@ -120,7 +120,7 @@ left_unmissed : (turns n : ℕ) (event : Event) (observed : Observation) → lef
 left_unmissed turns n (Turn missed) observed = refl
 left_unmissed turns n (Elapses micros missed) observed = refl
 left_unmissed turns n (Reports message) observed = refl
-left_unmissed turns n (Programs packet) observed = refl
+left_unmissed turns n (Programs packet change) observed = refl
 left_unmissed turns n (Connects client) observed = refl
 left_unmissed turns n (Receives client byte) observed = refl
 left_unmissed turns n (Disconnects client) observed = refl
@@ -129,7 +129,7 @@ report_unmissed : (event : Event) → is_report (unmissed event) ≡ is_report e
 report_unmissed (Turn missed) = refl
 report_unmissed (Elapses micros missed) = refl
 report_unmissed (Reports message) = refl
-report_unmissed (Programs packet) = refl
+report_unmissed (Programs packet change) = refl
 report_unmissed (Connects client) = refl
 report_unmissed (Receives client byte) = refl
 report_unmissed (Disconnects client) = refl

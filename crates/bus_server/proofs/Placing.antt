@@ -41,14 +41,14 @@ placed_by bus (Disconnects client) legal = legal
 placed_by bus (Receives client byte) legal = asked_placed bus client (request_at (client_of bus client) byte) legal
 placed_by bus (Elapses micros missed) legal = passing_placed (packet_of_turn bus.station) (nat_le bus.remaining micros)
 placed_by bus (Reports message) legal = refl
-placed_by bus (Programs packet) legal = refl
+placed_by bus (Programs packet change) legal = refl
 placed_by bus (Turn missed) legal = refl
 
 -- the answer names the same client
 
 pub names-answered : (names : List (List ℕ)) (railway : Option RailwayState) (outcome : Outcome) → names_client (answered names railway outcome) ≡ names_client outcome
 names-answered names railway Nothing = refl
-names-answered names railway (Programmed packet) = refl
+names-answered names railway (Programmed packet change) = refl
 names-answered names railway (TurnBegan packet) = refl
 names-answered names railway (Disconnected client) = refl
 names-answered names railway (Connected client) = refl
@@ -66,7 +66,7 @@ names-answered names railway (DeviceAnswered client answer) = refl
 
 pub names-programmed : (programming : Option BenchState) (outcome : Outcome) → names_client (programmed programming outcome) ≡ names_client outcome
 names-programmed programming Nothing = refl
-names-programmed programming (Programmed packet) = refl
+names-programmed programming (Programmed packet change) = refl
 names-programmed programming (TurnBegan packet) = refl
 names-programmed programming (Disconnected client) = refl
 names-programmed programming (Connected client) = refl
@@ -89,7 +89,7 @@ length-outcome outcome queues = length-enqueued 0 (λ client. text_for client ou
 
 pub length-after : (outcome : Outcome) (queues : SendQueues) → length (queues_after outcome queues) ≡ length queues
 length-after Nothing queues = refl
-length-after (Programmed packet) queues = refl
+length-after (Programmed packet change) queues = refl
 length-after (TurnBegan packet) queues = refl
 length-after (Disconnected client) queues = length-set queues client None
 length-after (Connected client) queues = length-outcome (Connected client) (slice_set queues client (Some [])) ∙ length-set queues client (Some [])
@@ -123,7 +123,7 @@ within_capacity-outcome outcome queues = within_capacity-all 0 (λ client. text_
 
 pub within_capacity-after : (outcome : Outcome) (queues : SendQueues) → list_all is_within_capacity queues ≡ true → list_all is_within_capacity (queues_after outcome queues) ≡ true
 within_capacity-after Nothing queues within_capacity = within_capacity
-within_capacity-after (Programmed packet) queues within_capacity = within_capacity
+within_capacity-after (Programmed packet change) queues within_capacity = within_capacity
 within_capacity-after (TurnBegan packet) queues within_capacity = within_capacity
 within_capacity-after (Disconnected client) queues within_capacity = room_set queues client None within_capacity refl
 within_capacity-after (Connected client) queues within_capacity = within_capacity-outcome (Connected client) (slice_set queues client (Some []))

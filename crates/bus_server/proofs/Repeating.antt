@@ -119,7 +119,7 @@ missed_again (Connects client) = refl
 missed_again (Receives client byte) = refl
 missed_again (Disconnects client) = refl
 missed_again (Reports message) = refl
-missed_again (Programs packet) = refl
+missed_again (Programs packet change) = refl
 missed_again (Elapses micros missed) = refl
 missed_again (Turn missed) = refl
 
@@ -141,7 +141,7 @@ has_missed (Connects client) = refl
 has_missed (Receives client byte) = refl
 has_missed (Disconnects client) = refl
 has_missed (Reports message) = refl
-has_missed (Programs packet) = refl
+has_missed (Programs packet change) = refl
 has_missed (Elapses micros missed) = tt
 has_missed (Turn missed) = tt
 
@@ -158,7 +158,7 @@ draws_same (Connects client) bus nodes m n old a b is are h k = (is ∙ sym are,
 draws_same (Receives client byte) bus nodes m n old a b is are h k = (is ∙ sym are, h ∙ sym k)
 draws_same (Disconnects client) bus nodes m n old a b is are h k = (is ∙ sym are, h ∙ sym k)
 draws_same (Reports message) bus nodes m n old a b is are h k = (is ∙ sym are, h ∙ sym k)
-draws_same (Programs packet) bus nodes m n old a b is are h k = (is ∙ sym are, h ∙ sym k)
+draws_same (Programs packet change) bus nodes m n old a b is are h k = (is ∙ sym are, h ∙ sym k)
 draws_same (Elapses micros none) bus nodes m n old a b is are h k = begun_same (nat_le bus.remaining micros) nodes m n old a b h k
 draws_same (Turn none) bus nodes m n old a b is are h k = (missed_same nodes m n old a b h k, drawn_same nodes m n old a b h k)
 
@@ -195,7 +195,7 @@ same_unreported (Disconnects client) made old a b h k = h.1 ∙ sym k.1
 same_unreported (Elapses micros missed) made old a b h k = h.1 ∙ sym k.1
 same_unreported (Turn missed) made old a b h k = h.1 ∙ sym k.1
 same_unreported (Reports message) made old a b h k = tail_same h.0 k.0 a b (sym h.1 ∙ k.1)
-same_unreported (Programs packet) made old a b h k = tail_same h.0 k.0 a b (sym h.1 ∙ k.1)
+same_unreported (Programs packet change) made old a b h k = tail_same h.0 k.0 a b (sym h.1 ∙ k.1)
 
 effect_same : (event : Event) (seen those : Observation) (old a b : Core) → HasEffect event seen old a → HasEffect event those old b → a.losses ≡ b.losses → EndsSame seen those a b
 effect_same event seen those old a b h k losses =
@@ -236,7 +236,7 @@ none_due (Disconnects client) made old new is h = h.0
 none_due (Elapses micros missed) made old new is h = h.0
 none_due (Turn missed) made old new is h = h.0
 none_due (Reports message) made old new is h = cc
-none_due (Programs packet) made old new is h = cc
+none_due (Programs packet change) made old new is h = cc
 
 pub no_report : (event : Event) (made old new : List DeviceReport) → old ≡ [] → IsDue event made old new → is_report event ≡ false
 no_report (Connects client) made old new none h = refl
@@ -245,11 +245,11 @@ no_report (Disconnects client) made old new none h = refl
 no_report (Elapses micros missed) made old new none h = refl
 no_report (Turn missed) made old new none h = refl
 no_report (Reports message) made old new none h = no_cons h.0 new (sym none ∙ h.1)
-no_report (Programs packet) made old new none h = no_cons h.0 new (sym none ∙ h.1)
+no_report (Programs packet change) made old new none h = no_cons h.0 new (sym none ∙ h.1)
 
 next_of : (event : Event) (made old new : List DeviceReport) → is_report event ≡ true → IsDue event made old new → IsNext event old new
 next_of (Reports message) made old new is h = h
-next_of (Programs packet) made old new is h = h
+next_of (Programs packet change) made old new is h = h
 next_of (Connects client) made old new is h = cc
 next_of (Receives client byte) made old new is h = cc
 next_of (Disconnects client) made old new is h = cc

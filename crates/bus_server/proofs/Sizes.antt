@@ -47,6 +47,7 @@ use Rattle.programmer.specs.declared.task_result.TaskResult.{TaskResult}
 use Rattle.programmer.specs.Machine.{reply_of}
 use Rattle.programmer.specs.Replies.{reply_bytes as task_reply_bytes}
 use Rattle.programmer.specs.Requests.{request_in, result_bytes}
+use Rattle.arrayvec.specs.ArrayString.{ArrayString}
 use Rattle.programming_track.specs.declared.packet_end.PacketEnd.{PacketEnd}
 use Rattle.programming_track.specs.declared.programming_track.ProgrammingTrack.{ProgrammingTrack}
 use Rattle.programming_track.specs.Bench.{BenchState}
@@ -56,7 +57,7 @@ use Rattle.bus_server.specs.declared.device_report.DeviceReport.{DeviceReport}
 use Rattle.bus_server.specs.declared.device_report.DeviceReport.TheVariants.{Sensor, Packet, Ended}
 use Rattle.bus_server.specs.DeviceReports.{of_ends, of_result, of_sensors, event_of}
 use Rattle.bus_server.specs.Placement.{answered, place_answer, places}
-use Rattle.bus_server.specs.Programming.{device_answer, ends_elapsed, programmed, reply_by, reply_or}
+use Rattle.bus_server.specs.Programming.{decoder_on, device_answer, ends_elapsed, programmed, reply_by, reply_or}
 use Rattle.bus_server.specs.Sensors.{reports_of_time, full_report, is_report, next_turn, railway_after, railway_elapsed, railway_placed, reports_after, reports_due, reports_elapsed, running_in, power_of}
 
 -- The text of a request is at most 789 bytes.
@@ -167,7 +168,7 @@ request_most lines state client i kept byte = requested_text state client i (req
 
 abbrev pub text_size : DeviceReport → ℕ
 text_size (Sensor report) = 21
-text_size (Packet packet) = 0
+text_size (Packet packet change) = 0
 text_size (Ended ended) = 51
 
 abbrev pub owed : List DeviceReport → ℕ
@@ -191,7 +192,7 @@ message_in other = []
 pub message_size : (report : DeviceReport) (message : List ℕ) → event_of report ≡ Reports message → length (receive_text message) ≤ text_size report
 unfolding message_in
 message_size (Sensor report) message is = subst (λ (m : List ℕ). length (receive_text m) ≤ 21) (ap message_in is) (report_size report.sensor report.occupied)
-message_size (Packet packet) message is = cc
+message_size (Packet packet change) message is = cc
 message_size (Ended ended) message is = subst (λ (m : List ℕ). length (receive_text m) ≤ 51) (ap message_in is) (result_size ended)
 
 owed-append : (first second : List DeviceReport) → owed (first ++ second) ≡ owed first + owed second
@@ -206,9 +207,9 @@ owed_result : (ended : Option TaskResult) → owed (of_result ended) ≤ 51
 owed_result None = omega arith
 owed_result (Some ended) = omega arith
 
-owed_ends : (ends : List PacketEnd) → owed (of_ends ends) ≤ 51 * length ends
-owed_ends [] = omega arith
-owed_ends (one ∷ ends) = omega (arith, owed-append (of_result one.result) (of_ends ends), owed_result one.result, owed_ends ends)
+owed_ends : (decoder : Option ArrayString) (ends : List PacketEnd) → owed (of_ends decoder ends) ≤ 51 * length ends
+owed_ends decoder [] = omega arith
+owed_ends decoder (one ∷ ends) = omega (arith, owed-append (of_result one.result) (of_ends decoder ends), owed_result one.result, owed_ends decoder ends)
 
 onto_most : (report : Option SensorReport) (reports : List SensorReport) → length (onto report reports) ≤ length reports + 1
 onto_most None reports = omega arith
@@ -281,7 +282,8 @@ time_most : Limits → (railway : Option RailwayState) (programming : Option Ben
 time_most laws railway programming micros power nodes few short =
     let reports : List SensorReport = reports_elapsed railway micros power nodes in
     let ends : List PacketEnd = ends_elapsed programming micros in
-    omega (arith, owed-append (of_sensors reports) (of_ends ends), owed_sensors reports, owed_ends ends, elapsed_most railway micros power nodes few, ends_most laws programming micros short)
+    let decoder : Option ArrayString = decoder_on programming in
+    omega (arith, owed-append (of_sensors reports) (of_ends decoder ends), owed_sensors reports, owed_ends decoder ends, elapsed_most railway micros power nodes few, ends_most laws programming micros short)
 
 next_most : Limits → (bus : BusState) → next_turn bus ≤ 10740
 next_most laws bus = let longest = laws.turns.longest bus.station in omega (arith, longest)
@@ -292,7 +294,7 @@ made_most laws names bus nodes (Connects client) railway programming legal few =
 made_most laws names bus nodes (Receives client byte) railway programming legal few = requested_most names bus client (request_at (client_of bus client) byte) railway few
 made_most laws names bus nodes (Disconnects client) railway programming legal few = omega arith
 made_most laws names bus nodes (Reports message) railway programming legal few = omega arith
-made_most laws names bus nodes (Programs packet) railway programming legal few = omega arith
+made_most laws names bus nodes (Programs packet change) railway programming legal few = omega arith
 made_most laws names bus nodes (Elapses micros missed) railway programming legal few =
     time_most laws railway programming micros (power_of bus) nodes few (let short = leb-true micros 5796 legal in omega (arith, short))
 made_most laws names bus nodes (Turn missed) railway programming legal few = time_most laws railway programming (next_turn bus) (power_of bus) nodes few (next_most laws bus)
@@ -321,7 +323,7 @@ still_few same names bus nodes (Connects client) railway few = few
 still_few same names bus nodes (Receives client byte) railway few = few_placed same names bus client (request_at (client_of bus client) byte) railway few
 still_few same names bus nodes (Disconnects client) railway few = few
 still_few same names bus nodes (Reports message) railway few = few
-still_few same names bus nodes (Programs packet) railway few = few
+still_few same names bus nodes (Programs packet change) railway few = few
 still_few same names bus nodes (Elapses micros missed) railway few = few_elapsed same railway micros (power_of bus) nodes few
 still_few same names bus nodes (Turn missed) railway few = few_elapsed same railway (next_turn bus) (power_of bus) nodes few
 
@@ -332,7 +334,7 @@ none_due (Connects client) observed old new none runs = runs.unreported.0
 none_due (Receives client byte) observed old new none runs = runs.unreported.0
 none_due (Disconnects client) observed old new none runs = runs.unreported.0
 none_due (Reports message) observed old new none runs = cc
-none_due (Programs packet) observed old new none runs = cc
+none_due (Programs packet change) observed old new none runs = cc
 none_due (Elapses micros missed) observed old new none runs = runs.unreported.0
 none_due (Turn missed) observed old new none runs = runs.unreported.0
 
@@ -341,7 +343,7 @@ made_due (Connects client) observed old new none runs = runs.unreported.1
 made_due (Receives client byte) observed old new none runs = runs.unreported.1
 made_due (Disconnects client) observed old new none runs = runs.unreported.1
 made_due (Reports message) observed old new none runs = cc
-made_due (Programs packet) observed old new none runs = cc
+made_due (Programs packet change) observed old new none runs = cc
 made_due (Elapses micros missed) observed old new none runs = runs.unreported.1
 made_due (Turn missed) observed old new none runs = runs.unreported.1
 

@@ -64,7 +64,7 @@ client_runs (Receives client byte) observed old new time none h =
       h.unreported ∙ ap (λ (unreported : List DeviceReport). reports_due old.names (outcome_of old.bus (Receives client byte)) old.railway unreported) none,
     )
 client_runs (Reports message) observed old new time none h = cc
-client_runs (Programs packet) observed old new time none h = cc
+client_runs (Programs packet change) observed old new time none h = cc
 client_runs (Elapses micros missed) observed old new time none h = cc
 client_runs (Turn missed) observed old new time none h = cc
 
@@ -151,7 +151,7 @@ turn_runs micros missed outcome losses old drawn begun new lasts none draws is_d
 
 pub is_device_report : (report : DeviceReport) → is_report (event_of report) ≡ true
 is_device_report (Sensor report) = refl
-is_device_report (Packet packet) = refl
+is_device_report (Packet packet change) = refl
 is_device_report (Ended ended) = refl
 
 -- the server once it is taken
@@ -164,10 +164,10 @@ report_runs (Sensor report) rest observed old ready new is legal is_run h =
     let on_bus : RunsOnBus (event_of (Sensor report)) observed (without_first rest old) new = subst (λ (s : ServerState). RunsOnBus (event_of (Sensor report)) observed s new) is_run h in
     runs (event_of (Sensor report)) observed old.losses old.railway old.programming rest old new on_bus tt refl refl refl refl
     (Sensor report, is ∙ ap (λ (unreported : List DeviceReport). Sensor report ∷ unreported) (sym on_bus.unreported), legal, refl)
-report_runs (Packet packet) rest observed old ready new is legal is_run h =
-    let on_bus : RunsOnBus (event_of (Packet packet)) observed (without_first rest old) new = subst (λ (s : ServerState). RunsOnBus (event_of (Packet packet)) observed s new) is_run h in
-    runs (event_of (Packet packet)) observed old.losses old.railway old.programming rest old new on_bus tt refl refl refl refl
-    (Packet packet, is ∙ ap (λ (unreported : List DeviceReport). Packet packet ∷ unreported) (sym on_bus.unreported), legal, refl)
+report_runs (Packet packet change) rest observed old ready new is legal is_run h =
+    let on_bus : RunsOnBus (event_of (Packet packet change)) observed (without_first rest old) new = subst (λ (s : ServerState). RunsOnBus (event_of (Packet packet change)) observed s new) is_run h in
+    runs (event_of (Packet packet change)) observed old.losses old.railway old.programming rest old new on_bus tt refl refl refl refl
+    (Packet packet change, is ∙ ap (λ (unreported : List DeviceReport). Packet packet change ∷ unreported) (sym on_bus.unreported), legal, refl)
 report_runs (Ended ended) rest observed old ready new is legal is_run h =
     let on_bus : RunsOnBus (event_of (Ended ended)) observed (without_first rest old) new = subst (λ (s : ServerState). RunsOnBus (event_of (Ended ended)) observed s new) is_run h in
     runs (event_of (Ended ended)) observed old.losses old.railway old.programming rest old new on_bus tt refl refl refl refl

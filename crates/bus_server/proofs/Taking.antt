@@ -1,11 +1,13 @@
 -- What is due is taken from the front.
-use Rattle.std.proofs.Common.{◌≡◌, List, [], ◌∷◌, ◌++◌, drop, Some, None, refl, ap, sym, ◌∙◌}
+use Rattle.std.proofs.Common.{◌≡◌, List, [], ◌∷◌, ◌++◌, drop, Option, Some, None, refl, ap, sym, ◌∙◌}
 use Rattle.std.specs.Prelude.{slice_get}
 use Rattle.ln_ops.specs.declared.sensor.SensorReport.{SensorReport}
+use Rattle.arrayvec.specs.ArrayString.{ArrayString}
 use Rattle.programming_track.specs.declared.packet_end.PacketEnd.{PacketEnd}
 use Rattle.bus_server.specs.declared.device_report.DeviceReport.{DeviceReport}
 use Rattle.bus_server.specs.declared.device_report.DeviceReport.TheVariants.{Sensor, Packet}
 use Rattle.bus_server.specs.DeviceReports.{of_ends, of_result, of_sensors}
+use Rattle.bus_server.specs.Programming.{named}
 
 same_some : {A : Type 0} (a b : A) → Some a ≡ Some b → a ≡ b
 same_some a b h = cc
@@ -23,6 +25,6 @@ pub sensor_first : (reports rest : List SensorReport) (report : SensorReport) (b
 sensor_first reports rest report behind first after =
     ap (λ (all : List SensorReport). of_sensors all ++ behind) (first_of reports report first ∙ ap (λ (all : List SensorReport). report ∷ all) (sym after))
 
-pub packet_first : (ends rest : List PacketEnd) (one : PacketEnd) → Some one ≡ slice_get ends 0 → rest ≡ drop 1 ends
-    → of_ends ends ≡ Packet one.packet ∷ (of_result one.result ++ of_ends rest)
-packet_first ends rest one first after = ap of_ends (first_of ends one first ∙ ap (λ (all : List PacketEnd). one ∷ all) (sym after))
+pub packet_first : (decoder : Option ArrayString) (ends rest : List PacketEnd) (one : PacketEnd) → Some one ≡ slice_get ends 0 → rest ≡ drop 1 ends
+    → of_ends decoder ends ≡ Packet one.packet (named decoder one.change) ∷ (of_result one.result ++ of_ends decoder rest)
+packet_first decoder ends rest one first after = ap (of_ends decoder) (first_of ends one first ∙ ap (λ (all : List PacketEnd). one ∷ all) (sym after))

@@ -87,12 +87,12 @@ turn_keeps (Connects client) observed old new is h = cc
 turn_keeps (Receives client byte) observed old new is h = cc
 turn_keeps (Disconnects client) observed old new is h = cc
 turn_keeps (Reports message) observed old new is h = cc
-turn_keeps (Programs packet) observed old new is h = cc
+turn_keeps (Programs packet change) observed old new is h = cc
 turn_keeps (Elapses micros missed) observed old new is h = cc
 
 report_keeps : (event : Event) (observed : Observation) (old new : ServerState) → is_report event ≡ true → RunsEvent event observed old new → new.turns_due ≡ old.turns_due
 report_keeps (Reports message) observed old new is h = h.turns_due
-report_keeps (Programs packet) observed old new is h = h.turns_due
+report_keeps (Programs packet change) observed old new is h = h.turns_due
 report_keeps (Connects client) observed old new is h = cc
 report_keeps (Receives client byte) observed old new is h = cc
 report_keeps (Disconnects client) observed old new is h = cc

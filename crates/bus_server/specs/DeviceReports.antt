@@ -3,6 +3,7 @@ use Rattle.std.specs.Prelude.{◌≡◌, Bool, true, List, [], ◌∷◌, ◌++�
 use Rattle.std.specs.List.{flat_map}
 use Rattle.ln_ops.specs.Sensor.{report_bytes}
 use Rattle.ln_ops.specs.declared.sensor.SensorReport.{SensorReport}
+use Rattle.arrayvec.specs.ArrayString.{ArrayString}
 use Rattle.service_mode.specs.Spelling.{is_legal_packet}
 use Rattle.programmer.specs.declared.task_result.TaskResult.{TaskResult}
 use Rattle.programmer.specs.Requests.{is_legal_result, result_bytes}
@@ -13,17 +14,18 @@ use Rattle.bus.specs.declared.event.Event.TheVariants.{Reports, Programs}
 use Rattle.bus_server.specs.declared.device_report.DeviceReport.{DeviceReport}
 use Rattle.bus_server.specs.declared.device_report.DeviceReport.TheVariants.{Sensor, Packet, Ended}
 use Rattle.bus_server.specs.declared.device_reports.DeviceReports.{DeviceReports}
+use Rattle.bus_server.specs.Programming.{named}
 
 -- the event of the bus
 abbrev pub event_of : DeviceReport → Event
 event_of (Sensor report) = Reports (report_bytes report.sensor report.occupied)
-event_of (Packet packet) = Programs packet
+event_of (Packet packet change) = Programs packet change
 event_of (Ended ended) = Reports (result_bytes ended)
 
 -- a sensor is one of 1 to 4096, and a packet and a result can be made
 abbrev pub is_legal_report : DeviceReport → Bool
 is_legal_report (Sensor report) = is_report report
-is_legal_report (Packet packet) = is_legal_packet packet
+is_legal_report (Packet packet change) = is_legal_packet packet
 is_legal_report (Ended ended) = is_legal_result ended
 
 -- what sensors report
@@ -35,23 +37,24 @@ abbrev pub of_result : Option TaskResult → List DeviceReport
 of_result None = []
 of_result (Some ended) = Ended ended ∷ []
 
--- of a packet that has been sent: the packet, and then the result if it was the last of its task
-abbrev pub of_end : PacketEnd → List DeviceReport
-of_end one = Packet one.packet ∷ of_result one.result
+-- of a packet that has been sent to this decoder: the packet, with the change that it made, and then
+-- the result if it was the last of its task
+abbrev pub of_end : (decoder : Option ArrayString) → PacketEnd → List DeviceReport
+of_end decoder one = Packet one.packet (named decoder one.change) ∷ of_result one.result
 
-abbrev pub of_ends : List PacketEnd → List DeviceReport
-of_ends ends = flat_map of_end ends
+abbrev pub of_ends : (decoder : Option ArrayString) → List PacketEnd → List DeviceReport
+of_ends decoder ends = flat_map (of_end decoder) ends
 
 -- all that is still to report: of the sensors, of the task that has ended, and of the packets after it
 abbrev pub queue_of : DeviceReports → List DeviceReport
 queue_of items =
-    of_sensors items.reports.items ++ (of_result items.ended ++ of_ends items.ends.items)
+    of_sensors items.reports.items ++ (of_result items.ended ++ of_ends items.decoder items.ends.items)
 
 -- the reports of sensors among them
 abbrev pub sensors_in : List DeviceReport → List SensorReport
 sensors_in [] = []
 sensors_in (Sensor report ∷ items) = report ∷ sensors_in items
-sensors_in (Packet packet ∷ items) = sensors_in items
+sensors_in (Packet packet change ∷ items) = sensors_in items
 sensors_in (Ended ended ∷ items) = sensors_in items
 
 -- The first of them is the event, and the others stay.

@@ -1,6 +1,8 @@
 -- The programming track beside a bus, and the decoders that clients put on it.
 use Rattle.std.specs.Prelude.{ℕ, if◌then◌else◌, is_some, List, [], Option, Some, None, Result, Ok, Err, option_map}
+use Rattle.arrayvec.specs.ArrayString.{ArrayString}
 use Rattle.arrayvec.specs.ArrayVec.{ArrayVec}
+use Rattle.cv_memory.specs.declared.cv_change.CvChange.{CvChange}
 use Rattle.loconet_tcp.specs.declared.request.DeviceAnswer.{DeviceAnswer}
 use Rattle.loconet_tcp.specs.declared.request.DeviceAnswer.TheVariants as answer
 use Rattle.loconet_tcp.specs.declared.request.DeviceRequest.{DeviceRequest}
@@ -14,8 +16,9 @@ use Rattle.programmer.specs.declared.reply.TaskReply.{TaskReply}
 use Rattle.programmer.specs.Machine.{reply_of}
 use Rattle.programmer.specs.Replies.{reply_bytes}
 use Rattle.programmer.specs.Requests.{request_in}
+use Rattle.programming_track.specs.declared.packet_end.NamedChange.{NamedChange}
 use Rattle.programming_track.specs.declared.packet_end.PacketEnd.{PacketEnd}
-use Rattle.programming_track.specs.Bench.{BenchState, bench_elapsed, bench_requested, dismounted, has_decoder, mounted_as, with_failing}
+use Rattle.programming_track.specs.Bench.{BenchState, bench_elapsed, bench_requested, dismounted, has_decoder, mounted_as, name_on, with_failing}
 use Rattle.programming_track.specs.Time.{ends_within}
 use Rattle.bus.specs.declared.outcome.Outcome.{Outcome}
 use Rattle.bus.specs.declared.outcome.Outcome.TheVariants.{DeviceAnswered, DeviceRequested, Sent}
@@ -28,6 +31,17 @@ programming_elapsed programming micros = option_map (bench_elapsed micros) progr
 abbrev pub ends_elapsed : Option BenchState → (micros : ℕ) → List PacketEnd
 ends_elapsed None micros = []
 ends_elapsed (Some bench) micros = ends_within micros bench.track
+
+-- the decoder on it, if one stands there
+abbrev pub decoder_on : Option BenchState → Option ArrayString
+decoder_on None = None
+decoder_on (Some bench) = name_on bench
+
+-- a change of a decoder with its name, if there are both
+abbrev pub named : (decoder : Option ArrayString) → Option CvChange → Option NamedChange
+named None change = None
+named (Some name) None = None
+named (Some name) (Some change) = Some (record { name = name; change = change })
 
 -- Another decoder stands on the track, or none, unless the line does not say which.
 abbrev pub mounted : Result (Option (ArrayVec ℕ)) MountError → BenchState → BenchState

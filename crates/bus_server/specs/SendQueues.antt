@@ -20,7 +20,7 @@ enqueued_all outcome queues = enqueued_from 0 (λ client. text_for client outcom
 -- The queues after an outcome: a client that connects begins with an empty queue, and that of one that disconnects is closed.
 abbrev pub queues_after : Outcome → SendQueues → SendQueues
 queues_after Nothing queues = queues
-queues_after (Programmed packet) queues = queues
+queues_after (Programmed packet change) queues = queues
 queues_after (TurnBegan packet) queues = queues
 queues_after (Disconnected client) queues = slice_set queues client None
 queues_after (Connected client) queues = enqueued_all (Connected client) (slice_set queues client (Some []))
@@ -37,7 +37,7 @@ queues_after (DeviceAnswered client answer) queues = enqueued_all (DeviceAnswere
 -- a client that it names is one of the eight
 abbrev pub names_client : Outcome → Bool
 names_client Nothing = true
-names_client (Programmed packet) = true
+names_client (Programmed packet change) = true
 names_client (TurnBegan packet) = true
 names_client (Disconnected client) = nat_lt client 8
 names_client (Connected client) = nat_lt client 8

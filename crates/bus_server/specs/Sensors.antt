@@ -16,7 +16,7 @@ use Rattle.bus.specs.Bus.{BusState, after_event, outcome_of}
 use Rattle.bus_server.specs.declared.device_report.DeviceReport.{DeviceReport}
 use Rattle.bus_server.specs.DeviceReports.{IsNext, of_ends, of_sensors}
 use Rattle.bus_server.specs.Placement.{places}
-use Rattle.bus_server.specs.Programming.{ends_elapsed, programming_elapsed, programming_requested}
+use Rattle.bus_server.specs.Programming.{decoder_on, ends_elapsed, programming_elapsed, programming_requested}
 
 -- the power of the track
 abbrev pub power_of : BusState → Power
@@ -96,7 +96,7 @@ abbrev pub reports_of_time : Option RailwayState → Option BenchState → (micr
     → List Node → List DeviceReport
 reports_of_time railway programming micros power nodes =
     of_sensors (reports_elapsed railway micros power nodes)
-    ++ of_ends (ends_elapsed programming micros)
+    ++ of_ends (decoder_on programming) (ends_elapsed programming micros)
 
 -- What an event makes due: what is reported of its time, and what its outcome makes due.
 abbrev pub reports_after : (names : List (List ℕ)) → BusState → List Node → Event
@@ -104,7 +104,7 @@ abbrev pub reports_after : (names : List (List ℕ)) → BusState → List Node 
 reports_after names bus nodes (Connects client) railway programming = []
 reports_after names bus nodes (Disconnects client) railway programming = []
 reports_after names bus nodes (Reports message) railway programming = []
-reports_after names bus nodes (Programs packet) railway programming = []
+reports_after names bus nodes (Programs packet change) railway programming = []
 reports_after names bus nodes (Receives client byte) railway programming =
     reports_due names (outcome_of bus (Receives client byte)) railway []
 reports_after names bus nodes (Elapses micros missed) railway programming =
@@ -116,7 +116,7 @@ reports_after names bus nodes (Turn missed) railway programming =
 -- before. It makes others due.
 abbrev pub IsDue : Event → (made old new : List DeviceReport) → Type 0
 IsDue (Reports message) made old new = IsNext (Reports message) old new
-IsDue (Programs packet) made old new = IsNext (Programs packet) old new
+IsDue (Programs packet change) made old new = IsNext (Programs packet change) old new
 IsDue other made old new = (old ≡ []) × (new ≡ made)
 
 -- A time ends with the turn under way or before it, so that the decoders do the same in all of it.
@@ -127,5 +127,5 @@ IsWithinTurn other bus = Unit {0}
 -- a device beside the station reports: a sensor, or the programming track
 abbrev pub is_report : Event → Bool
 is_report (Reports message) = true
-is_report (Programs packet) = true
+is_report (Programs packet change) = true
 is_report other = false

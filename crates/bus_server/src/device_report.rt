@@ -5,6 +5,7 @@ ghost use Rattle.bus.specs.Bus.{is_event};
 use bus::Event;
 use ln_ops::SensorReport;
 use programmer::TaskResult;
+use programming_track::NamedChange;
 use service_mode::ServicePacket;
 
 /// What a device beside the station reports.
@@ -12,8 +13,11 @@ use service_mode::ServicePacket;
 pub(crate) enum DeviceReport {
     /// The block of a sensor became occupied or free.
     Sensor(SensorReport),
-    /// A packet has been sent on the programming track.
-    Packet(ServicePacket),
+    /// A packet has been sent on the programming track, and may have changed the decoder's variables.
+    Packet {
+        packet: ServicePacket,
+        change: Option<NamedChange>,
+    },
     /// The task of the programming track has ended.
     Ended(TaskResult),
 }
@@ -31,7 +35,7 @@ impl DeviceReport {
             DeviceReport::Sensor(report) => Event::Reports {
                 message: report.message(),
             },
-            DeviceReport::Packet(packet) => Event::Programs { packet },
+            DeviceReport::Packet { packet, change } => Event::Programs { packet, change },
             DeviceReport::Ended(result) => Event::Reports {
                 message: result.message(),
             },

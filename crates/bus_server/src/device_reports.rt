@@ -3,10 +3,12 @@ ghost use Rattle.std.specs.Prelude.{◌≡◌, ◌∷◌, ◌++◌, [], IfSome, 
 ghost use Rattle.std.specs.List.{list_all};
 ghost use Rattle.programming_track.specs.Time.{is_legal_end, is_legal_some};
 ghost use Rattle.railway.specs.Reports.{is_report};
+ghost use Rattle.bus_server.specs.Programming.{named};
 
 use crate::device_report::DeviceReport;
+use cv_memory::CvChange;
 use programmer::TaskResult;
-use programming_track::PacketEnds;
+use programming_track::{DecoderName, NamedChange, PacketEnds};
 use railway::Reports;
 
 /// What devices beside the station are still to report, in order.
@@ -18,6 +20,8 @@ pub(crate) struct DeviceReports {
     pub(crate) ended: Option<TaskResult>,
     /// The packets of the programming track after it.
     pub(crate) ends: PacketEnds,
+    /// The decoder to which they were sent.
+    pub(crate) decoder: Option<DecoderName>,
     ghost sensors: { list_all is_report reports.items ≡ true },
     ghost result: { is_legal_some ended ≡ true },
     ghost packets: { list_all is_legal_end ends.items ≡ true },
@@ -26,16 +30,21 @@ pub(crate) struct DeviceReports {
 impl DeviceReports {
     ghost use Rattle.bus_server.specs.DeviceReports.{queue_of, of_ends, of_sensors, is_legal_report};
 
-    /// What sensors report, and then the programming track.
-    pub(crate) fn new(reports: Reports, ends: PacketEnds) -> DeviceReports
+    /// What sensors report, and then the programming track, on which this decoder stands, or none.
+    pub(crate) fn new(
+        reports: Reports,
+        ends: PacketEnds,
+        decoder: Option<DecoderName>,
+    ) -> DeviceReports
         requires sensors { IsTrue (list_all is_report reports.items) }
         requires packets { IsTrue (list_all is_legal_end ends.items) }
-        ensures { queue_of result ≡ of_sensors reports.items ++ of_ends ends.items }
+        ensures { queue_of result ≡ of_sensors reports.items ++ of_ends decoder ends.items }
     {
         DeviceReports {
             reports,
             ended: None,
             ends,
+            decoder,
         }
     }
 
@@ -51,7 +60,7 @@ impl DeviceReports {
         requires sensors { IsTrue (list_all is_report reports.items) }
         ensures { queue_of result ≡ of_sensors reports.items }
     {
-        DeviceReports::new(reports, PacketEnds::new())
+        DeviceReports::new(reports, PacketEnds::new(), None)
     }
 
     /// Takes what is reported next.
@@ -80,6 +89,19 @@ impl DeviceReports {
         }
         let end = self.ends.pop_at(0)?;
         self.ended = end.result;
-        Some(DeviceReport::Packet(end.packet))
+        Some(DeviceReport::Packet {
+            packet: end.packet,
+            change: named(self.decoder, end.change),
+        })
     }
+}
+
+/// A change of a decoder with its name, if there are both.
+fn named(decoder: Option<DecoderName>, change: Option<CvChange>) -> Option<NamedChange>
+    ensures { result ≡ named decoder change }
+{
+    Some(NamedChange {
+        name: decoder?,
+        change: change?,
+    })
 }

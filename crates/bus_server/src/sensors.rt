@@ -8,7 +8,7 @@ ghost use Rattle.railway.specs.Reports.{is_report};
 ghost use Rattle.bus.specs.declared.outcome.Outcome.TheVariants.{PlaceRequested};
 ghost use Rattle.bus_server.specs.NamedNodes.{names_of};
 ghost use Rattle.bus_server.specs.Placement.{answered, place_answer};
-ghost use Rattle.bus_server.specs.Programming.{arranged, device_answer, ends_elapsed, programmed, programming_elapsed, programming_requested, reply_by};
+ghost use Rattle.bus_server.specs.Programming.{arranged, decoder_on, device_answer, ends_elapsed, programmed, programming_elapsed, programming_requested, reply_by};
 ghost use Rattle.bus_server.specs.Sensors.{reports_of_time, full_report, railway_elapsed, railway_placed, reports_due, reports_elapsed};
 
 use crate::arranging::arrange;
@@ -20,7 +20,7 @@ use layout_core::World;
 use ln_frame::Msg;
 use ln_ops::begins_interrogation;
 use loconet_tcp::{DeviceAnswer, DeviceRequest, PlaceError, Placement};
-use programming_track::{PacketEnds, ProgrammingBench};
+use programming_track::{DecoderName, PacketEnds, ProgrammingBench};
 use railway::{Railway, Reports};
 
 /// The devices beside the station, trains with their sensors and a programming track, if there are
@@ -62,8 +62,9 @@ impl Sensors {
             world.now.station.powered.power world.now.nodes }
     {
         let reports = run_trains(&mut self.railway, micros, world);
+        let decoder = decoder_on(&self.programming);
         let ends = send_packets(&mut self.programming, micros);
-        self.unreported = DeviceReports::new(reports, ends);
+        self.unreported = DeviceReports::new(reports, ends, decoder);
     }
 
     /// Does what an outcome of the bus asks of the devices: a report of each sensor, to put a train on
@@ -204,6 +205,16 @@ fn send_packets(programming: &mut Option<ProgrammingBench>, micros: u32) -> Pack
     match programming {
         Some(bench) => bench.elapse(micros),
         None => PacketEnds::new(),
+    }
+}
+
+/// The decoder on the programming track, if one stands there.
+fn decoder_on(programming: &Option<ProgrammingBench>) -> Option<DecoderName>
+    ensures { result ≡ decoder_on programming.now }
+{
+    match programming {
+        Some(bench) => bench.mounted_name(),
+        None => None,
     }
 }
 
