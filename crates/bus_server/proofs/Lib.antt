@@ -1,5 +1,6 @@
 pub mod Accounts
 pub mod Answering
+pub mod Apart
 pub mod Courses
 pub mod Following
 pub mod Going

@@ -104,17 +104,17 @@ rounds_course most (round ∷ rounds) old new h =
 
 -- An event of the same input is the same event, since what is missed of it is drawn.
 
-abbrev missed_of : Event → ℕ
+abbrev pub missed_of : Event → ℕ
 missed_of (Turn missed) = missed
 missed_of (Elapses micros missed) = missed
 missed_of event = 0
 
-abbrev with_missed : Event → ℕ → Event
+abbrev pub with_missed : Event → ℕ → Event
 with_missed (Turn none) missed = Turn missed
 with_missed (Elapses micros none) missed = Elapses micros missed
 with_missed event missed = event
 
-missed_again : (event : Event) → with_missed (unmissed event) (missed_of event) ≡ event
+pub missed_again : (event : Event) → with_missed (unmissed event) (missed_of event) ≡ event
 missed_again (Connects client) = refl
 missed_again (Receives client byte) = refl
 missed_again (Disconnects client) = refl
@@ -124,19 +124,19 @@ missed_again (Elapses micros missed) = refl
 missed_again (Turn missed) = refl
 
 -- the draw of an input
-abbrev IsDrawnFor : Event → BusState → (nodes missed : ℕ) → (old new : Losses) → Type 0
+abbrev pub IsDrawnFor : Event → BusState → (nodes missed : ℕ) → (old new : Losses) → Type 0
 IsDrawnFor event bus nodes missed old new = IsDrawn (with_missed event missed) bus nodes old new
 
-drawn_for : (event : Event) (bus : BusState) (nodes : ℕ) (old new : Losses) → IsDrawn event bus nodes old new → IsDrawnFor (unmissed event) bus nodes (missed_of event) old new
+pub drawn_for : (event : Event) (bus : BusState) (nodes : ℕ) (old new : Losses) → IsDrawn event bus nodes old new → IsDrawnFor (unmissed event) bus nodes (missed_of event) old new
 drawn_for event bus nodes old new h = subst (λ (e : Event). IsDrawn e bus nodes old new) (sym (missed_again event)) h
 
 -- only turns and time have something that is missed
-abbrev HasMissed : Event → (missed : ℕ) → Type 0
+abbrev pub HasMissed : Event → (missed : ℕ) → Type 0
 HasMissed (Turn none) missed = Unit {0}
 HasMissed (Elapses micros none) missed = Unit {0}
 HasMissed event missed = missed ≡ 0
 
-has_missed : (event : Event) → HasMissed (unmissed event) (missed_of event)
+pub has_missed : (event : Event) → HasMissed (unmissed event) (missed_of event)
 has_missed (Connects client) = refl
 has_missed (Receives client byte) = refl
 has_missed (Disconnects client) = refl
@@ -153,7 +153,7 @@ begun_same : (begins : Bool) (nodes m n : ℕ) (old a b : Losses) → MatchBool 
 begun_same true nodes m n old a b h k = (missed_same nodes m n old a b h k, drawn_same nodes m n old a b h k)
 begun_same false nodes m n old a b h k = (h.0 ∙ sym k.0, h.1 ∙ sym k.1)
 
-draws_same : (event : Event) (bus : BusState) (nodes m n : ℕ) (old a b : Losses) → HasMissed event m → HasMissed event n → IsDrawnFor event bus nodes m old a → IsDrawnFor event bus nodes n old b → DrawsSame m n a b
+pub draws_same : (event : Event) (bus : BusState) (nodes m n : ℕ) (old a b : Losses) → HasMissed event m → HasMissed event n → IsDrawnFor event bus nodes m old a → IsDrawnFor event bus nodes n old b → DrawsSame m n a b
 draws_same (Connects client) bus nodes m n old a b is are h k = (is ∙ sym are, h ∙ sym k)
 draws_same (Receives client byte) bus nodes m n old a b is are h k = (is ∙ sym are, h ∙ sym k)
 draws_same (Disconnects client) bus nodes m n old a b is are h k = (is ∙ sym are, h ∙ sym k)

@@ -7,6 +7,7 @@ pub mod Hub
 pub mod KeepUp
 pub mod Known
 pub mod Losses
+pub mod MainTrack
 pub mod NamedNodes
 pub mod Observations
 pub mod Pace

@@ -2,6 +2,7 @@
 ghost use Rattle.bus_server.specs.Fronts.{FrontsAreWritten};
 ghost use Rattle.bus_server.specs.KeepUp.{StaysConnected};
 ghost use Rattle.bus_server.specs.Known.{BecomesKnown, StaysKnown};
+ghost use Rattle.bus_server.specs.MainTrack.{MainTrackIsApart};
 ghost use Rattle.bus_server.specs.Repeats.{OrderDecides, RunsRepeat, TurnsFollowMessages};
 ghost use Rattle.bus_server.specs.Running.{NoneMisses, RoundsAreARun, TimeIsRead};
 
@@ -64,4 +65,10 @@ pub fn runs_repeat()
 /// If no share of the packets is to be lost, no decoder misses a turn.
 pub fn none_misses()
     ensures { NoneMisses }
+{}
+
+/// Nothing of a programming track has an effect on the main track: what comes from outside decides it, with a programming track and
+/// without, and messages for slot 124 among it.
+pub fn main_track_is_apart()
+    ensures { MainTrackIsApart }
 {}
