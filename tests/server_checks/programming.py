@@ -177,6 +177,41 @@ def arranged_track():
         ended(client, READ, DONE, 1, 3)
 
 
+def logged(server):
+    """The changes of variables in the log."""
+    return [line for line in server.printed() if line.startswith("cv ")]
+
+
+def logged_changes():
+    """--programmer: each change of a variable is a line of the log, with the name of its decoder"""
+    other = DECODER.replace("shunter", "express")
+    with decoder(DECODER, other) as file, serve(*file, "--turns", "0") as server, Client(server) as client:
+        ended(client, READ, DONE, 29, 6)
+        ended(client, WRITE, DONE, 29, 2, 2)
+        ended(client, WRITE, DONE, 29, 2, 2)
+        # The version is read only.
+        ended(client, WRITE, NO_WRITE, 7, 9, 9)
+        # Bit 2 is turned on, twice: 2 and 4 are 6, the value of the file.
+        ended(client, WRITE_BIT, DONE, 29, 0x0A, 0x0A)
+        ended(client, WRITE_BIT, DONE, 29, 0x0A, 0x0A)
+        ended(client, WRITE, DONE, 8, 8, 8)
+        wanted = ["cv shunter 29 = 2", "cv shunter 29 = 6"]
+        ended(client, WRITE, DONE, 1, 4, 4)
+        ended(client, WRITE, DONE, 1024, 255, 255)
+        ended(client, WRITE, DONE, 8, 8, 8)
+        ended(client, WRITE, DONE, 8, 8, 8)
+        wanted += ["cv shunter 1 = 4", "cv shunter 1024 = 255", "cv shunter as in the file"]
+        same("another decoder", own(client, "MOUNT express"), "MOUNT OK")
+        same("failing", own(client, "FAIL programming"), "FAIL OK")
+        ended(client, WRITE, NO_WRITE, 1, 4, 4)
+        wanted += ["cv express 1 = 4"]
+        same("none", own(client, "MOUNT nothing"), "MOUNT OK")
+        ended(client, WRITE, NO_DECODER, 1, 5, 5)
+        last = f"message {message_hex(0xE7, 0x0E, 0x7C, WRITE, NO_DECODER, 0, 0, 0, 0, 0, 5, 0, 0)}"
+        holds("the last result", server.until(lambda: any(line.startswith(last) for line in server.printed())))
+        same("changes", logged(server), wanted)
+
+
 def arranged_while_busy():
     """--programmer: another decoder is put on the track while a task is under way, which goes on"""
     other = DECODER.replace("shunter", "express").replace("[1, 3]", "[1, 5]")

@@ -693,6 +693,9 @@ class TestServer(unittest.TestCase):
             with self.assertRaises(NoDecoderError):
                 track.read(1)
             self.assertEqual(track.changes(), {"shunter": {29: 6}, "express": {1: 7, 3: 20}})
+            server.wait_for("cv express 3 = 20")
+            changes = [line for line in server.printed() if line.startswith("cv ")]
+            self.assertEqual(changes, ["cv shunter 29 = 6", "cv express 1 = 7", "cv express 3 = 20"])
             track.mount("shunter")
             track.fail()
             with self.assertRaises(NoAcknowledgeError):
