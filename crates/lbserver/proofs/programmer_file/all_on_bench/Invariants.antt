@@ -1,4 +1,4 @@
-use Rattle.std.proofs.Common.{◌≡◌, ◌≤◌, length}
+use Rattle.std.proofs.Common.{◌≤◌, length}
 use Rattle.toml.specs.View.{table_view}
 use Rattle.lbserver.specs.Programmers.{HasNodes}
 use Rattle.lbserver.proofs.programmer_file.all_on_bench.Given as goal
