@@ -79,8 +79,11 @@ mount_text (Ok done) = codes "MOUNT OK" ++ line_end
 mount_text (Err error) = codes "MOUNT ERROR " ++ mount_error_text error ++ line_end
 
 abbrev pub fail_error_text : FailError → List ℕ
+fail_error_text fail_error.UnknownFailure = codes "no such failure"
 fail_error_text fail_error.NoTrack = codes "no programming track"
-fail_error_text fail_error.UnknownFailure = codes "neither programming nor none"
+fail_error_text fail_error.NoPlan = codes "no plan"
+fail_error_text fail_error.UnknownSensor = codes "no such sensor"
+fail_error_text fail_error.UnknownTurnout = codes "no such turnout"
 
 -- what was to fail fails from now on, or nothing does, or nothing changed, for this reason
 abbrev pub fail_text : {Done : Type 0} → Result Done FailError → List ℕ

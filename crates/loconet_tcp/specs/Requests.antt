@@ -2,7 +2,7 @@
 -- the case of the digits, the tab as a blank and the replies to invalid lines: these are rules of
 -- this project. So are the words TURNS, NODES, TRAINS, TURNOUTS, CVS, PLACE, MOUNT and FAIL, which other
 -- servers pass over.
-use Rattle.std.specs.Prelude.{ℕ, Bool, ◌&&◌, if◌then◌else◌, nat_le, nat_lt, List, [], ◌∷◌, length, take, Option, Some, None, Result, Ok, Err, codes}
+use Rattle.std.specs.Prelude.{ℕ, Bool, true, false, ◌&&◌, if◌then◌else◌, nat_le, nat_lt, List, [], ◌∷◌, length, take, Option, Some, None, Result, Ok, Err, codes}
 use Rattle.std.specs.List.{list_all, before_first, after_first}
 use Rattle.std.specs.Option.{is_some}
 use Rattle.std.specs.Str.{bytes_eq}
@@ -17,9 +17,9 @@ use Rattle.loconet_tcp.specs.declared.request.DeviceRequest.TheVariants.{Mount, 
 use Rattle.loconet_tcp.specs.declared.request.MountError.{MountError}
 use Rattle.loconet_tcp.specs.declared.request.MountError.TheVariants.{NoName}
 use Rattle.loconet_tcp.specs.declared.request.Failure.{Failure}
-use Rattle.loconet_tcp.specs.declared.request.Failure.TheVariants.{Programming}
+use Rattle.loconet_tcp.specs.declared.request.Failure.TheVariants.{Programming, Sensor, Turnout}
 use Rattle.loconet_tcp.specs.declared.request.FailError.{FailError}
-use Rattle.loconet_tcp.specs.declared.request.FailError.TheVariants.{UnknownFailure}
+use Rattle.loconet_tcp.specs.declared.request.FailError.TheVariants.{UnknownFailure, UnknownSensor, UnknownTurnout}
 use Rattle.arrayvec.specs.ArrayVec.{ArrayVec}
 use Rattle.loconet_tcp.specs.declared.request.Facing.{Facing}
 use Rattle.loconet_tcp.specs.declared.request.Facing.TheVariants.{A, B}
@@ -130,17 +130,45 @@ parse_mount [] = Err NoName
 parse_mount (word ∷ []) = Ok (decoder_in word)
 parse_mount (word ∷ other ∷ words) = Err NoName
 
--- what a word lets fail
+-- what a word alone lets fail, or that nothing fails
 abbrev pub failure_named : List ℕ → Result (Option Failure) FailError
 failure_named word =
     if bytes_eq word (codes "programming") then Ok (Some Programming)
     else if bytes_eq word (codes "none") then Ok None else Err UnknownFailure
 
--- what the words after FAIL let fail: there is one word
+-- the number of a sensor or a switch, of 16 bits
+abbrev pub number_within : Option ℕ → Option ℕ
+number_within None = None
+number_within (Some number) = if nat_le number 65535 then Some number else None
+
+-- the turnout of the switch that a word writes
+abbrev pub turnout_failure : Option ℕ → Result (Option Failure) FailError
+turnout_failure None = Err UnknownTurnout
+turnout_failure (Some switch) = Ok (Some (Turnout switch))
+
+-- the sensor that a word writes, as occupied or as free
+abbrev pub sensor_failure : Option ℕ → (occupied : Bool) → Result (Option Failure) FailError
+sensor_failure None occupied = Err UnknownSensor
+sensor_failure (Some sensor) occupied = Ok (Some (Sensor sensor occupied))
+
+-- what the sensor of this number reports while it fails: on or off
+abbrev pub sensor_failing : (word : List ℕ) → Option ℕ → Result (Option Failure) FailError
+sensor_failing word number =
+    if bytes_eq word (codes "on") then sensor_failure number true
+    else if bytes_eq word (codes "off") then sensor_failure number false else Err UnknownFailure
+
+-- what the words after FAIL let fail: programming, none, turnout and a number, or sensor, a number
+-- and on or off
 abbrev pub parse_fail : List (List ℕ) → Result (Option Failure) FailError
 parse_fail [] = Err UnknownFailure
 parse_fail (word ∷ []) = failure_named word
-parse_fail (word ∷ other ∷ words) = Err UnknownFailure
+parse_fail (word ∷ number ∷ []) =
+    if bytes_eq word (codes "turnout") then turnout_failure (number_within (decimal_of number))
+    else Err UnknownFailure
+parse_fail (word ∷ number ∷ level ∷ []) =
+    if bytes_eq word (codes "sensor") then
+    sensor_failing level (number_within (decimal_of number)) else Err UnknownFailure
+parse_fail (word ∷ number ∷ level ∷ other ∷ words) = Err UnknownFailure
 
 -- a number of turns that can be requested
 abbrev pub in_range : Option ℕ → Option ℕ

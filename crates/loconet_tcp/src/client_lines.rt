@@ -266,13 +266,16 @@ fn words_of_mount(error: MountError) -> &'static [u8]
     }
 }
 
-/// The reason in plain words, at most 28 bytes.
+/// The reason in plain words, at most 20 bytes.
 fn words_of_fail(error: FailError) -> &'static [u8]
     ensures words { result.now ≡ fail_error_text error }
-    ensures most { length result.now ≤ 28 }
+    ensures most { length result.now ≤ 20 }
 {
     match error {
+        FailError::UnknownFailure => b"no such failure",
         FailError::NoTrack => b"no programming track",
-        FailError::UnknownFailure => b"neither programming nor none",
+        FailError::NoPlan => b"no plan",
+        FailError::UnknownSensor => b"no such sensor",
+        FailError::UnknownTurnout => b"no such turnout",
     }
 }

@@ -1,7 +1,8 @@
 //! Parsing a line.
-ghost use Rattle.std.specs.Prelude.{◌≡◌, ◌≤◌, [], if◌then◌else◌, length, nat_lt, take, None, Some, Err, MatchOption};
+ghost use Rattle.std.specs.Prelude.{◌≡◌, ◌≤◌, ◌∷◌, [], if◌then◌else◌, length, nat_lt, take, None, Some, Err, MatchOption};
+ghost use Rattle.text.specs.Decimal.{decimal_of};
 ghost use Rattle.text.specs.Words.{with_piece, words_of};
-ghost use Rattle.loconet_tcp.specs.Requests.{are_pairs, bytes_of, decoder_in, end_named, facing_of, failure_named, leading_bytes, parse_fail, parse_mount, parse_place, parse_send, placement_of, request_of, things_of, turns_of};
+ghost use Rattle.loconet_tcp.specs.Requests.{are_pairs, bytes_of, decoder_in, end_named, facing_of, failure_named, leading_bytes, number_within, parse_fail, parse_mount, parse_place, parse_send, placement_of, request_of, things_of, turns_of};
 
 use crate::request::{
     DeviceRequest, Facing, FailError, Failure, LONGEST_WORD, MountError, PlaceError, Placement,
@@ -109,17 +110,21 @@ fn parse_fail(words: &[u8]) -> Result<Option<Failure>, FailError>
     ensures { result ≡ parse_fail (words_of words.now) }
 {
     let (word, rest) = next_word(words);
+    let (number, rest) = next_word(rest);
+    let (level, rest) = next_word(rest);
     let (other, _rest) = next_word(rest);
-    if word.is_empty() {
+    if word.is_empty() || !other.is_empty() {
         Err(FailError::UnknownFailure)
-    } else if other.is_empty() {
+    } else if number.is_empty() {
         failure_named(word)
+    } else if level.is_empty() {
+        turnout_failure(word, number)
     } else {
-        Err(FailError::UnknownFailure)
+        sensor_failure(word, number, level)
     }
 }
 
-/// Returns what a word lets fail, or `None` for `none`.
+/// Returns what a word alone lets fail, or `None` for `none`.
 fn failure_named(word: &[u8]) -> Result<Option<Failure>, FailError>
     ensures { result ≡ failure_named word.now }
 {
@@ -129,6 +134,46 @@ fn failure_named(word: &[u8]) -> Result<Option<Failure>, FailError>
         Ok(None)
     } else {
         Err(FailError::UnknownFailure)
+    }
+}
+
+/// Returns the turnout that two words let fail.
+fn turnout_failure(word: &[u8], number: &[u8]) -> Result<Option<Failure>, FailError>
+    ensures { result ≡ parse_fail (word.now ∷ number.now ∷ []) }
+{
+    if word != b"turnout".as_slice() {
+        return Err(FailError::UnknownFailure);
+    }
+    match number_of(number) {
+        Some(switch) => Ok(Some(Failure::Turnout { switch })),
+        None => Err(FailError::UnknownTurnout),
+    }
+}
+
+/// Returns the sensor that three words let fail.
+fn sensor_failure(word: &[u8], number: &[u8], level: &[u8]) -> Result<Option<Failure>, FailError>
+    ensures { result ≡ parse_fail (word.now ∷ number.now ∷ level.now ∷ []) }
+{
+    if word != b"sensor".as_slice() {
+        return Err(FailError::UnknownFailure);
+    }
+    let occupied = level == b"on".as_slice();
+    if !occupied && level != b"off".as_slice() {
+        return Err(FailError::UnknownFailure);
+    }
+    match number_of(number) {
+        Some(sensor) => Ok(Some(Failure::Sensor { sensor, occupied })),
+        None => Err(FailError::UnknownSensor),
+    }
+}
+
+/// Returns the number of a sensor or a switch that a word writes.
+fn number_of(word: &[u8]) -> Option<u16>
+    ensures { result ≡ number_within (decimal_of word.now) }
+{
+    match read_decimal(word) {
+        Some(number) if number <= u32::from(u16::MAX) => Some(number as u16),
+        _ => None,
     }
 }
 

@@ -27,7 +27,7 @@ pub enum DeviceRequest {
     /// Put the decoder of this name on the programming track, or none; or why the line does not say
     /// which.
     Mount(Result<Option<Word>, MountError>),
-    /// Let this fail from now on, or nothing; or why the line does not say what.
+    /// Let this fail from now on, or end all failures; or why the line does not say what.
     Fail(Result<Option<Failure>, FailError>),
 }
 
@@ -45,6 +45,10 @@ pub enum DeviceAnswer {
 pub enum Failure {
     /// Acknowledgements on the programming track: the decoder obeys, and draws no current.
     Programming,
+    /// The sensor of this number: it reports its block as occupied, or as free, whatever is there.
+    Sensor { sensor: u16, occupied: bool },
+    /// The turnout of this switch: it follows no output of its decoder.
+    Turnout { switch: u16 },
 }
 
 /// What a client can ask the states of.
@@ -142,9 +146,14 @@ pub enum MountError {
 /// Why nothing fails on request. The first reason that applies is reported.
 #[derive(Clone, Copy, Debug, PartialEq, Eq)]
 pub enum FailError {
+    /// What follows `FAIL` is no failure, or the line has more than 400 characters.
+    UnknownFailure,
     /// There is no programming track.
     NoTrack,
-    /// What follows `FAIL` is neither `programming` nor `none`, or the line has more than 400
-    /// characters.
-    UnknownFailure,
+    /// There is no track plan.
+    NoPlan,
+    /// No block has a sensor of this number.
+    UnknownSensor,
+    /// No turnout has a switch of this number.
+    UnknownTurnout,
 }

@@ -18,7 +18,8 @@ use Rattle.railway.specs.declared.joint.TurnoutState.{TurnoutState}
 use Rattle.railway.specs.declared.train.Place.{Place}
 use Rattle.railway.specs.declared.train.TrainState.{TrainState}
 use Rattle.railway.specs.Blocks.{length_of, same_block_end}
-use Rattle.railway.specs.Laws.{asked_of, has_switch, train_after}
+use Rattle.railway.specs.Failures.{has_switch}
+use Rattle.railway.specs.Laws.{asked_of, train_after}
 use Rattle.railway.specs.Network.{Network, exit_of, exit_to, is_against, is_branch, is_end_of, is_moving, joined, leaves_at, onward, onward_by, partner, run_on, step, switch_at, way_on}
 use Rattle.railway.specs.Places.{end_ahead, further, is_derailed, span, still, to_end, turned}
 use Rattle.railway.specs.Railway.{run_in, run_under}

@@ -13,6 +13,7 @@ pub mod Covering
 pub mod Returning
 pub mod Throwing
 pub mod Derailing
+pub mod Faulty
 pub mod Changing
 pub mod Meeting
 pub mod Occupying

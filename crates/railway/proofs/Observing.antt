@@ -7,10 +7,9 @@ use Rattle.std.specs.Option.{option_eq}
 use Rattle.std.specs.Prelude.{nat_eq, if◌then◌else◌}
 use Rattle.railway.specs.declared.block.Block.{Block}
 use Rattle.ln_ops.specs.declared.sensor.SensorReport.{SensorReport}
-use Rattle.railway.specs.declared.train.TrainState.{TrainState}
 use Rattle.railway.specs.Blocks.{are_distinct, has_sensor, is_free, default_block}
 use Rattle.railway.specs.Turnouts.{same_bool}
-use Rattle.railway.specs.Reports.{changes, changes_from, full, full_from, level_of, is_occupied, level_after, onto, change_of}
+use Rattle.railway.specs.Reports.{changes, changes_from, full, full_from, level_of, level_after, onto, change_of}
 use Rattle.railway.proofs.Facts.{or-left, or-right}
 
 pub level_after-append : (these those : List SensorReport) (sensor : ℕ) (level : Bool) → level_after (these ++ those) sensor level ≡ level_after those sensor (level_after these sensor level)
@@ -73,65 +72,65 @@ free-other (Some own) blocks sensor j free h there = not-has own sensor blocks j
 
 -- The reports of blocks that have not the sensor say nothing of it.
 
-changes-silent : (level : Bool) (was is : List TrainState) (k : ℕ) (blocks : List Block) (sensor : ℕ) (taken : Bool) → has_sensor sensor blocks ≡ false → level_after (changes_from level was is k blocks) sensor taken ≡ taken
+changes-silent : (level : Bool) (was is : ℕ → Bool) (k : ℕ) (blocks : List Block) (sensor : ℕ) (taken : Bool) → has_sensor sensor blocks ≡ false → level_after (changes_from level was is k blocks) sensor taken ≡ taken
 changes-silent level was is k [] sensor taken none = refl
 changes-silent level was is k (block ∷ blocks) sensor taken none =
     let other : IsOther block.sensor sensor = or-left _ (has_sensor sensor blocks) none in
-    level_after-onto (change_of level block.sensor (is_occupied was k) (is_occupied is k)) (changes_from level was is (k + 1) blocks) sensor taken
+    level_after-onto (change_of level block.sensor (was k) (is k)) (changes_from level was is (k + 1) blocks) sensor taken
     ∙ changes-silent level was is (k + 1) blocks sensor _ (or-right (option_eq nat_eq block.sensor (Some sensor)) _ none)
-    ∙ known-other level block.sensor sensor (is_occupied was k) (is_occupied is k) taken other
+    ∙ known-other level block.sensor sensor (was k) (is k) taken other
 
-full-silent : (trains : List TrainState) (k : ℕ) (blocks : List Block) (sensor : ℕ) (taken : Bool) → has_sensor sensor blocks ≡ false → level_after (full_from trains k blocks) sensor taken ≡ taken
-full-silent trains k [] sensor taken none = refl
-full-silent trains k (block ∷ blocks) sensor taken none =
+full-silent : (is : ℕ → Bool) (k : ℕ) (blocks : List Block) (sensor : ℕ) (taken : Bool) → has_sensor sensor blocks ≡ false → level_after (full_from is k blocks) sensor taken ≡ taken
+full-silent is k [] sensor taken none = refl
+full-silent is k (block ∷ blocks) sensor taken none =
     let other : IsOther block.sensor sensor = or-left _ (has_sensor sensor blocks) none in
-    level_after-onto (level_of block.sensor (is_occupied trains k)) (full_from trains (k + 1) blocks) sensor taken
-    ∙ full-silent trains (k + 1) blocks sensor _ (or-right (option_eq nat_eq block.sensor (Some sensor)) _ none)
-    ∙ full-other block.sensor sensor (is_occupied trains k) taken other
+    level_after-onto (level_of block.sensor (is k)) (full_from is (k + 1) blocks) sensor taken
+    ∙ full-silent is (k + 1) blocks sensor _ (or-right (option_eq nat_eq block.sensor (Some sensor)) _ none)
+    ∙ full-other block.sensor sensor (is k) taken other
 
 -- the other blocks have not the sensor of the first
 first-alone : (of_block : Option ℕ) (blocks : List Block) (sensor : ℕ) → is_free of_block blocks ≡ true → of_block ≡ Some sensor → has_sensor sensor blocks ≡ false
 first-alone of_block blocks sensor free own = not-true _ (subst (λ (s : Option ℕ). is_free s blocks ≡ true) own free)
 
-changes-known : (level : Bool) (was is : List TrainState) (k : ℕ) (blocks : List Block) (j sensor : ℕ) (taken : Bool) → are_distinct blocks ≡ true → j < length blocks → (slice_index_or blocks j default_block).sensor ≡ Some sensor
-    → level_after (changes_from level was is k blocks) sensor taken ≡ come level (is_occupied was (k + j)) (is_occupied is (k + j)) taken
+changes-known : (level : Bool) (was is : ℕ → Bool) (k : ℕ) (blocks : List Block) (j sensor : ℕ) (taken : Bool) → are_distinct blocks ≡ true → j < length blocks → (slice_index_or blocks j default_block).sensor ≡ Some sensor
+    → level_after (changes_from level was is k blocks) sensor taken ≡ come level (was (k + j)) (is (k + j)) taken
 changes-known level was is k [] j sensor taken distinct h there = absurd (omega arith)
 changes-known level was is k (block ∷ blocks) zero sensor taken distinct h there =
     let parts = and_parts (is_free block.sensor blocks) (are_distinct blocks) distinct in
     let here : k ≡ k + 0 = omega arith in
-    level_after-onto (change_of level block.sensor (is_occupied was k) (is_occupied is k)) (changes_from level was is (k + 1) blocks) sensor taken
+    level_after-onto (change_of level block.sensor (was k) (is k)) (changes_from level was is (k + 1) blocks) sensor taken
     ∙ changes-silent level was is (k + 1) blocks sensor _ (first-alone block.sensor blocks sensor parts.0 there)
-    ∙ ap (λ (s : Option ℕ). known (change_of level s (is_occupied was k) (is_occupied is k)) sensor taken) there
-    ∙ known-own level sensor (is_occupied was k) (is_occupied is k) taken
-    ∙ ap (λ (n : ℕ). come level (is_occupied was n) (is_occupied is n) taken) here
+    ∙ ap (λ (s : Option ℕ). known (change_of level s (was k) (is k)) sensor taken) there
+    ∙ known-own level sensor (was k) (is k) taken
+    ∙ ap (λ (n : ℕ). come level (was n) (is n) taken) here
 changes-known level was is k (block ∷ blocks) (suc j) sensor taken distinct h there =
     let parts = and_parts (is_free block.sensor blocks) (are_distinct blocks) distinct in
     let before : j < length blocks = omega arith in
     let further : k + 1 + j ≡ k + suc j = omega arith in
-    level_after-onto (change_of level block.sensor (is_occupied was k) (is_occupied is k)) (changes_from level was is (k + 1) blocks) sensor taken
+    level_after-onto (change_of level block.sensor (was k) (is k)) (changes_from level was is (k + 1) blocks) sensor taken
     ∙ changes-known level was is (k + 1) blocks j sensor _ parts.1 before there
-    ∙ ap (λ (t : Bool). come level (is_occupied was (k + 1 + j)) (is_occupied is (k + 1 + j)) t)
-    (known-other level block.sensor sensor (is_occupied was k) (is_occupied is k) taken (free-other block.sensor blocks sensor j parts.0 before there))
-    ∙ ap (λ (n : ℕ). come level (is_occupied was n) (is_occupied is n) taken) further
+    ∙ ap (λ (t : Bool). come level (was (k + 1 + j)) (is (k + 1 + j)) t)
+    (known-other level block.sensor sensor (was k) (is k) taken (free-other block.sensor blocks sensor j parts.0 before there))
+    ∙ ap (λ (n : ℕ). come level (was n) (is n) taken) further
 
-full-known : (trains : List TrainState) (k : ℕ) (blocks : List Block) (j sensor : ℕ) (taken : Bool) → are_distinct blocks ≡ true → j < length blocks → (slice_index_or blocks j default_block).sensor ≡ Some sensor
-    → level_after (full_from trains k blocks) sensor taken ≡ is_occupied trains (k + j)
-full-known trains k [] j sensor taken distinct h there = absurd (omega arith)
-full-known trains k (block ∷ blocks) zero sensor taken distinct h there =
+full-known : (is : ℕ → Bool) (k : ℕ) (blocks : List Block) (j sensor : ℕ) (taken : Bool) → are_distinct blocks ≡ true → j < length blocks → (slice_index_or blocks j default_block).sensor ≡ Some sensor
+    → level_after (full_from is k blocks) sensor taken ≡ is (k + j)
+full-known is k [] j sensor taken distinct h there = absurd (omega arith)
+full-known is k (block ∷ blocks) zero sensor taken distinct h there =
     let parts = and_parts (is_free block.sensor blocks) (are_distinct blocks) distinct in
     let here : k ≡ k + 0 = omega arith in
-    level_after-onto (level_of block.sensor (is_occupied trains k)) (full_from trains (k + 1) blocks) sensor taken
-    ∙ full-silent trains (k + 1) blocks sensor _ (first-alone block.sensor blocks sensor parts.0 there)
-    ∙ ap (λ (s : Option ℕ). known (level_of s (is_occupied trains k)) sensor taken) there
-    ∙ full-own sensor (is_occupied trains k) taken
-    ∙ ap (λ (n : ℕ). is_occupied trains n) here
-full-known trains k (block ∷ blocks) (suc j) sensor taken distinct h there =
+    level_after-onto (level_of block.sensor (is k)) (full_from is (k + 1) blocks) sensor taken
+    ∙ full-silent is (k + 1) blocks sensor _ (first-alone block.sensor blocks sensor parts.0 there)
+    ∙ ap (λ (s : Option ℕ). known (level_of s (is k)) sensor taken) there
+    ∙ full-own sensor (is k) taken
+    ∙ ap (λ (n : ℕ). is n) here
+full-known is k (block ∷ blocks) (suc j) sensor taken distinct h there =
     let parts = and_parts (is_free block.sensor blocks) (are_distinct blocks) distinct in
     let before : j < length blocks = omega arith in
     let further : k + 1 + j ≡ k + suc j = omega arith in
-    level_after-onto (level_of block.sensor (is_occupied trains k)) (full_from trains (k + 1) blocks) sensor taken
-    ∙ full-known trains (k + 1) blocks j sensor _ parts.1 before there
-    ∙ ap (λ (n : ℕ). is_occupied trains n) further
+    level_after-onto (level_of block.sensor (is k)) (full_from is (k + 1) blocks) sensor taken
+    ∙ full-known is (k + 1) blocks j sensor _ parts.1 before there
+    ∙ ap (λ (n : ℕ). is n) further
 
 come-both : (was is : Bool) → come false was is (come true was is was) ≡ is
 come-both true true = refl
@@ -140,18 +139,18 @@ come-both false true = refl
 come-both false false = refl
 
 -- an observer who knows what a block was knows what it is
-pub knows_changes : (blocks : List Block) (was is : List TrainState) (j sensor : ℕ) → are_distinct blocks ≡ true → j < length blocks → (slice_index_or blocks j default_block).sensor ≡ Some sensor
-    → level_after (changes blocks was is) sensor (is_occupied was j) ≡ is_occupied is j
+pub knows_changes : (blocks : List Block) (was is : ℕ → Bool) (j sensor : ℕ) → are_distinct blocks ≡ true → j < length blocks → (slice_index_or blocks j default_block).sensor ≡ Some sensor
+    → level_after (changes blocks was is) sensor (was j) ≡ is j
 knows_changes blocks was is j sensor distinct h there =
     let here : 0 + j ≡ j = omega arith in
-    level_after-append (changes_from true was is 0 blocks) (changes_from false was is 0 blocks) sensor (is_occupied was j)
+    level_after-append (changes_from true was is 0 blocks) (changes_from false was is 0 blocks) sensor (was j)
     ∙ changes-known false was is 0 blocks j sensor _ distinct h there
-    ∙ ap (λ (t : Bool). come false (is_occupied was (0 + j)) (is_occupied is (0 + j)) t) (changes-known true was is 0 blocks j sensor (is_occupied was j) distinct h there)
-    ∙ ap (λ (n : ℕ). come false (is_occupied was n) (is_occupied is n) (come true (is_occupied was n) (is_occupied is n) (is_occupied was j))) here
-    ∙ come-both (is_occupied was j) (is_occupied is j)
+    ∙ ap (λ (t : Bool). come false (was (0 + j)) (is (0 + j)) t) (changes-known true was is 0 blocks j sensor (was j) distinct h there)
+    ∙ ap (λ (n : ℕ). come false (was n) (is n) (come true (was n) (is n) (was j))) here
+    ∙ come-both (was j) (is j)
 
-pub knows_full : (blocks : List Block) (trains : List TrainState) (j sensor : ℕ) (taken : Bool) → are_distinct blocks ≡ true → j < length blocks → (slice_index_or blocks j default_block).sensor ≡ Some sensor
-    → level_after (full blocks trains) sensor taken ≡ is_occupied trains j
-knows_full blocks trains j sensor taken distinct h there =
+pub knows_full : (blocks : List Block) (is : ℕ → Bool) (j sensor : ℕ) (taken : Bool) → are_distinct blocks ≡ true → j < length blocks → (slice_index_or blocks j default_block).sensor ≡ Some sensor
+    → level_after (full blocks is) sensor taken ≡ is j
+knows_full blocks is j sensor taken distinct h there =
     let here : 0 + j ≡ j = omega arith in
-    full-known trains 0 blocks j sensor taken distinct h there ∙ ap (λ (n : ℕ). is_occupied trains n) here
+    full-known is 0 blocks j sensor taken distinct h there ∙ ap (λ (n : ℕ). is n) here

@@ -1,18 +1,14 @@
 -- The blocks in which trains are, and what sensors report of them.
-use Rattle.std.proofs.Common.{◌≡◌, ◌<◌, ◌≤◌, ◌+◌, ◌∙◌, ◌++◌, ◌||◌, ℕ, Bool, true, false, if◌then◌else◌, List, [], ◌∷◌, length, map, Option, Some, None, refl, ap, ap₂, arith}
+use Rattle.std.proofs.Common.{◌≡◌, ◌<◌, ◌≤◌, ◌+◌, ◌∙◌, ◌++◌, ℕ, Bool, true, false, if◌then◌else◌, List, [], ◌∷◌, length, Option, Some, None, refl, ap, ap₂, arith}
 use Rattle.std.specs.Bool.{beq}
 use Rattle.std.specs.Cmp.Lexicographic.{pointwise}
-use Rattle.std.specs.Prelude.{◌&&◌, nat_lt, not}
+use Rattle.std.specs.Prelude.{◌&&◌, not}
 use Rattle.std.specs.List.{slice_index_or}
-use Rattle.layout_core.specs.declared.node.Node.{Node}
 use Rattle.ln_ops.specs.declared.sensor.SensorReport.{SensorReport}
 use Rattle.railway.specs.declared.block.Block.{Block}
-use Rattle.railway.specs.declared.train.TrainState.{TrainState}
-use Rattle.railway.specs.Network.{Network}
-use Rattle.railway.specs.Reports.{AreOccupied, change_of, changes, changes_from, changes_in, changes_of, is_occupied, onto}
-use Rattle.railway.specs.Turnouts.{checked, same_bool}
+use Rattle.railway.specs.Reports.{AreMarked, change_of, changes, changes_from, changes_in, changes_of, full, full_from, full_in, level_of, onto}
+use Rattle.railway.specs.Turnouts.{same_bool}
 use Rattle.railway.proofs.Keeping.{same-marks}
-use Rattle.railway.proofs.Throwing.{checked-under}
 
 -- Trains that stay in their blocks make no sensor report.
 
@@ -37,30 +33,30 @@ no_changes was is blocks h =
 
 -- What they report goes by the blocks that are occupied.
 
-changes-by : (level : Bool) (was is : List TrainState) (before after : List Bool) (i : ℕ) (blocks : List Block) → AreOccupied was before → AreOccupied is after → i + length blocks ≤ 64
+changes-by : (level : Bool) (was is : ℕ → Bool) (before after : List Bool) (i : ℕ) (blocks : List Block) → AreMarked was before → AreMarked is after → i + length blocks ≤ 64
     → changes_in level before after i blocks ≡ changes_from level was is i blocks
 changes-by level was is before after i [] h g few = refl
 changes-by level was is before after i (block ∷ blocks) h g few =
     let here : i < 64 = omega (arith, few) in
     ap₂ onto (ap₂ (λ (a b : Bool). change_of level block.sensor a b) (h i here) (g i here)) (changes-by level was is before after (i + 1) blocks h g (omega (arith, few)))
 
-pub changes-occupied : (was is : List TrainState) (before after : List Bool) (blocks : List Block) → AreOccupied was before → AreOccupied is after → length blocks ≤ 64
+pub changes-marked : (was is : ℕ → Bool) (before after : List Bool) (blocks : List Block) → AreMarked was before → AreMarked is after → length blocks ≤ 64
     → changes_of before after blocks ≡ changes blocks was is
-changes-occupied was is before after blocks h g few =
+changes-marked was is before after blocks h g few =
     ap₂ (λ (a b : List SensorReport). a ++ b) (changes-by true was is before after 0 blocks h g (omega (arith, few))) (changes-by false was is before after 0 blocks h g (omega (arith, few)))
 
--- A train that is derailed where it is stays in its blocks.
+-- the levels of marks
+abbrev pub level_in : List Bool → (block : ℕ) → Bool
+level_in marks block = slice_index_or marks block false
 
-same_checked : (nodes : List Node) (n : Network) (ts : List TrainState) (block : ℕ) → is_occupied (map (checked nodes n) ts) block ≡ is_occupied ts block
-same_checked nodes n [] block = refl
-same_checked nodes n (t ∷ ts) block =
-    ap₂ (λ (a b : Bool). a || b) (ap (λ (under : List Bool). nat_lt block 64 && slice_index_or under block false) (checked-under nodes n t)) (same_checked nodes n ts block)
+pub changes-levels : (before after : List Bool) (blocks : List Block) → length blocks ≤ 64 → changes_of before after blocks ≡ changes blocks (level_in before) (level_in after)
+changes-levels before after blocks few = changes-marked (level_in before) (level_in after) before after blocks (λ block h. refl) (λ block h. refl) few
 
-checked_from : (level : Bool) (nodes : List Node) (n : Network) (ts is : List TrainState) (i : ℕ) (blocks : List Block) → changes_from level (map (checked nodes n) ts) is i blocks ≡ changes_from level ts is i blocks
-checked_from level nodes n ts is i [] = refl
-checked_from level nodes n ts is i (block ∷ blocks) =
-    ap₂ onto (ap (λ (before : Bool). change_of level block.sensor before (is_occupied is i)) (same_checked nodes n ts i)) (checked_from level nodes n ts is (i + 1) blocks)
+full-by : (is : ℕ → Bool) (marks : List Bool) (i : ℕ) (blocks : List Block) → AreMarked is marks → i + length blocks ≤ 64 → full_in marks i blocks ≡ full_from is i blocks
+full-by is marks i [] h few = refl
+full-by is marks i (block ∷ blocks) h few =
+    let here : i < 64 = omega (arith, few) in
+    ap₂ onto (ap (λ (level : Bool). level_of block.sensor level) (h i here)) (full-by is marks (i + 1) blocks h (omega (arith, few)))
 
-pub checked_changes : (nodes : List Node) (n : Network) (ts is : List TrainState) (blocks : List Block) → changes blocks (map (checked nodes n) ts) is ≡ changes blocks ts is
-checked_changes nodes n ts is blocks =
-    ap₂ (λ (a b : List SensorReport). a ++ b) (checked_from true nodes n ts is 0 blocks) (checked_from false nodes n ts is 0 blocks)
+pub full-marked : (is : ℕ → Bool) (marks : List Bool) (blocks : List Block) → AreMarked is marks → length blocks ≤ 64 → full_in marks 0 blocks ≡ full blocks is
+full-marked is marks blocks h few = full-by is marks 0 blocks h (omega (arith, few))

@@ -64,7 +64,7 @@ ran-kept p micros nodes r h = by p where
   trains : (q : Power) → list_all (is_train n) (ran q) ≡ true
   trains q = run_all-trains q n micros nodes r.trains sound (and_parts (is_sound n) (list_all (is_train n) r.trains) h).1
 
-  goes : (q : Power) → is_railway (record { network = advanced micros n; trains = ran q }) ≡ true
+  goes : (q : Power) → is_railway (record r { network = advanced micros n; trains = ran q }) ≡ true
   goes q = and_from (is_sound (advanced micros n)) (list_all (is_train (advanced micros n)) (ran q)) (advanced-sound micros n sound) (advanced-trains micros n (ran q) sound (trains q))
 
   by : (q : Power) → is_railway (ran_in q micros nodes r) ≡ true
@@ -125,8 +125,8 @@ run_through-seen p nodes (suc k) r = run_through-seen p nodes k (ran_in p 1 node
 
 laid-again : (nodes : List Node) (r : RailwayState) → list_any (is_changed nodes) r.network.turnouts ≡ false → laid_in nodes r ≡ r
 laid-again nodes r none =
-    ap (λ (n : Network). record { network = n; trains = map (checked nodes r.network) r.trains }) (unchanged-laid nodes r.network none)
-    ∙ ap (λ (ts : List TrainState). record { network = r.network; trains = ts }) (unmoved-trains nodes r.network r.trains (unchanged-none nodes r.network.turnouts none))
+    ap (λ (n : Network). record r { network = n; trains = map (checked nodes r.network) r.trains }) (unchanged-laid nodes r.network none)
+    ∙ ap (λ (ts : List TrainState). record r { trains = ts }) (unmoved-trains nodes r.network r.trains (unchanged-none nodes r.network.turnouts none))
 
 pub elapsed-elapsed : (r : RailwayState) (p : Power) (nodes : List Node) (these those : ℕ) → elapsed (elapsed r these p nodes) those p nodes ≡ elapsed r (these + those) p nodes
 elapsed-elapsed r p nodes these those =
@@ -253,15 +253,15 @@ trains-on p k nodes n ts none =
     all-same-track p (moved_on 1) n (calm-track n none) (suc k) nodes (map (run_under p n 1 nodes) ts)
     ∙ all-all p n nodes 1 (suc k) ts ∙ ap (λ (j : ℕ). map (run_under p n j nodes) ts) e
 
-abbrev pub railway_of : Network → List TrainState → RailwayState
-railway_of n ts = record { network = n; trains = ts }
+abbrev pub railway_of : RailwayState → Network → List TrainState → RailwayState
+railway_of r n ts = record r { network = n; trains = ts }
 
 both-on : (p : Power) (k : ℕ) (nodes : List Node) (r : RailwayState) → is_calm (suc (suc k)) r.network ≡ true
-    → railway_of (advanced (suc k) (advanced 1 r.network)) (map (run_under p (advanced 1 r.network) (suc k) nodes) (map (run_under p r.network 1 nodes) r.trains))
-    ≡ railway_of (advanced (suc (suc k)) r.network) (map (run_under p r.network (suc (suc k)) nodes) r.trains)
+    → railway_of r (advanced (suc k) (advanced 1 r.network)) (map (run_under p (advanced 1 r.network) (suc k) nodes) (map (run_under p r.network 1 nodes) r.trains))
+    ≡ railway_of r (advanced (suc (suc k)) r.network) (map (run_under p r.network (suc (suc k)) nodes) r.trains)
 both-on p k nodes r h =
     let n = r.network in
-    ap₂ (λ (states : List TurnoutState) (ts : List TrainState). railway_of (record n { turnouts = states }) ts) (moved_on-moved_on (suc k) n.turnouts)
+    ap₂ (λ (states : List TurnoutState) (ts : List TrainState). railway_of r (record n { turnouts = states }) ts) (moved_on-moved_on (suc k) n.turnouts)
     (trains-on p k nodes n r.trains (none-come k n.turnouts h))
 
 ran-ran : (p : Power) (k : ℕ) (nodes : List Node) (r : RailwayState) → is_piece p (suc (suc k)) r.network ≡ true → ran_in p (suc k) nodes (ran_in p 1 nodes r) ≡ ran_in p (suc (suc k)) nodes r

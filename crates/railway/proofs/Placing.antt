@@ -10,8 +10,9 @@ use Rattle.railway.specs.declared.fault.PlaceFault.{PlaceFault}
 use Rattle.railway.specs.declared.fault.PlaceFault.TheVariants.{UnknownTrain, UnknownBlock, OffTrack}
 use Rattle.railway.specs.declared.train.Position.{Position}
 use Rattle.railway.specs.declared.train.TrainState.{TrainState}
-use Rattle.railway.specs.Course.{Happening, after, unless_refused}
-use Rattle.railway.specs.Course.Happening.{Elapses, Places}
+use Rattle.railway.specs.Course.{Happening, after, unless_refused, sensor_failed}
+use Rattle.railway.specs.Course.Happening.{Elapses, FailuresEnd, Places, SensorFails, TurnoutFails}
+use Rattle.railway.specs.Failures.{block_with}
 use Rattle.railway.specs.Network.{is_sound}
 use Rattle.railway.specs.Placement.{has_front, is_room}
 use Rattle.railway.specs.Railway.{RailwayState, fits_in, is_railway, is_train, laid_in, run_through, place_fault, place_unless, placed_in, ran_in, replaced, run_under, train_at}
@@ -84,6 +85,12 @@ places-railway r i position is = either (place_fault r i position) refl where
 -- the blocks stay
 pub same-blocks : (r : RailwayState) (happening : Happening) → (after r happening).network.blocks ≡ r.network.blocks
 same-blocks r (Elapses micros power nodes) = run_through-blocks power nodes micros (laid_in nodes r)
+same-blocks r (SensorFails sensor occupied) = either (block_with sensor r.network.blocks) where
+  either : (block : Option ℕ) → (sensor_failed block occupied r).network.blocks ≡ r.network.blocks
+  either None = refl
+  either (Some block) = refl
+same-blocks r (TurnoutFails switch) = refl
+same-blocks r FailuresEnd = refl
 same-blocks r (Places i position) = either (place_fault r i position) where
   either : (fault : Option PlaceFault) → (unless_refused fault (placed_in r i position) r).network.blocks ≡ r.network.blocks
   either None = refl
@@ -115,6 +122,12 @@ pub lengths-stay : (r : RailwayState) (happening : Happening) (i : ℕ) (none : 
 lengths-stay r (Elapses micros power nodes) i none =
     run_through-lengths power nodes micros (laid_in nodes r) i none
     ∙ same-length (checked nodes r.network) (λ t. (checked-same nodes r.network t).length) r.trains i none
+lengths-stay r (SensorFails sensor occupied) i none = either (block_with sensor r.network.blocks) where
+  either : (block : Option ℕ) → (slice_index_or (sensor_failed block occupied r).trains i none).length ≡ (slice_index_or r.trains i none).length
+  either None = refl
+  either (Some block) = refl
+lengths-stay r (TurnoutFails switch) i none = refl
+lengths-stay r FailuresEnd i none = refl
 lengths-stay r (Places j position) i none = either (place_fault r j position) where
   either : (fault : Option PlaceFault) → (slice_index_or (unless_refused fault (placed_in r j position) r).trains i none).length ≡ (slice_index_or r.trains i none).length
   either None = set-length r.trains j i (replaced r.network (slice_index_or r.trains j default_state) position) none default_state refl

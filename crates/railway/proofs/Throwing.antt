@@ -19,7 +19,7 @@ use Rattle.railway.specs.Network.{LeadsOn, Network, across, as_joint, covered, e
 use Rattle.railway.specs.Places.{end_ahead, further, is_derailed, span, to_end}
 use Rattle.railway.specs.Railway.{is_train}
 use Rattle.railway.specs.Running.{is_within}
-use Rattle.railway.specs.Turnouts.{came_on, checked, derailed_at, is_changed, is_moved, is_on, laid, left_to, observed, outputs_in, pair_of, same_bool, seen_of, side_of, thrown_under}
+use Rattle.railway.specs.Turnouts.{asked, came_on, checked, derailed_at, is_changed, is_moved, is_on, laid, observed, outputs_in, pair_of, same_bool, seen_of, side_of, thrown_under}
 use Rattle.railway.proofs.Covering.{covered-ends, covered-suc, covered-zero}
 use Rattle.railway.proofs.Facts.{none-some, or-left, or-none, or-right}
 use Rattle.railway.proofs.Joining.{across-none}
@@ -415,20 +415,25 @@ side-stays outputs pair side =
     ap (λ (b : Bool). if same_bool b (came_on outputs outputs (2 * (pair % 4))) then side else came_on outputs outputs (2 * (pair % 4))) (none-came outputs (2 * (pair % 4) + 1))
     ∙ ap (λ (b : Bool). if same_bool false b then side else b) (none-came outputs (2 * (pair % 4)))
 
+-- a turnout that is asked for its side stays
+pub asked-same : (state : TurnoutState) → asked state.is_thrown state ≡ state
+asked-same state = ap (λ (b : Bool). record state { left = if b then state.left else state.turnout.time * 1000 - state.left }) (same-bool-self state.is_thrown)
+
 pub unchanged-observed : (nodes : List Node) (state : TurnoutState) → is_changed nodes state ≡ false → observed nodes state ≡ state
 unchanged-observed nodes state h = by (outputs_in nodes state.decoder) (not-not _ h) where
-  asked : (side : Bool) → TurnoutState
-  asked side = record state { is_thrown = side; left = left_to side state }
+  side : Option ℕ → Bool
+  side found = if state.fails then state.is_thrown else side_of state.outputs found (pair_of state.turnout.switch) state.is_thrown
 
-  stays : asked state.is_thrown ≡ state
-  stays = ap (λ (b : Bool). record state { left = if b then state.left else state.turnout.time * 1000 - state.left }) (same-bool-self state.is_thrown)
+  either : (fails : Bool) → (if fails then state.is_thrown else state.is_thrown) ≡ state.is_thrown
+  either true = refl
+  either false = refl
 
-  by : (found : Option ℕ) → (seen_of state.outputs found == state.outputs) ≡ true
-      → record (asked (side_of state.outputs found (pair_of state.turnout.switch) state.is_thrown)) { outputs = seen_of state.outputs found } ≡ state
-  by None e = stays
+  by : (found : Option ℕ) → (seen_of state.outputs found == state.outputs) ≡ true → record (asked (side found) state) { outputs = seen_of state.outputs found } ≡ state
+  by None e = ap (λ (at : Bool). asked at state) (either state.fails) ∙ asked-same state
   by (Some is) e =
-      ap (λ (o : ℕ). record (asked (side_of state.outputs (Some o) (pair_of state.turnout.switch) state.is_thrown)) { outputs = o }) (eqb-true is state.outputs e)
-      ∙ ap (λ (side : Bool). asked side) (side-stays state.outputs (pair_of state.turnout.switch) state.is_thrown) ∙ stays
+      ap (λ (o : ℕ). record (asked (side (Some o)) state) { outputs = o }) (eqb-true is state.outputs e)
+      ∙ ap (λ (at : Bool). asked (if state.fails then state.is_thrown else at) state) (side-stays state.outputs (pair_of state.turnout.switch) state.is_thrown)
+      ∙ ap (λ (at : Bool). asked at state) (either state.fails) ∙ asked-same state
 
 unchanged-moved : (nodes : List Node) (state : TurnoutState) → is_changed nodes state ≡ false → is_moved nodes state ≡ false
 unchanged-moved nodes state h =

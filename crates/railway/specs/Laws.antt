@@ -1,5 +1,5 @@
 -- What the laws of a railway speak of.
-use Rattle.std.specs.Prelude.{ℕ, ◌≡◌, ◌*◌, ◌<◌, ◌≤◌, ◌==◌, ◌&&◌, Bool, false, not, List, [], ◌∷◌, length, Some, IsTrue}
+use Rattle.std.specs.Prelude.{ℕ, ◌≡◌, ◌*◌, ◌<◌, ◌≤◌, ◌&&◌, Bool, true, false, not, List, [], ◌∷◌, length, Some, IsTrue}
 use Rattle.std.specs.List.{list_any, slice_index_or}
 use Rattle.layout_core.specs.declared.node.Node.{Node}
 use Rattle.refresh_ring.specs.declared.pick.Power.{Power}
@@ -10,14 +10,17 @@ use Rattle.motion.specs.declared.velocity.Drive.{Drive}
 use Rattle.motion.specs.declared.velocity.Velocity.{Velocity}
 use Rattle.railway.specs.declared.block.Block.{Block}
 use Rattle.railway.specs.declared.block.BlockEnd.{BlockEnd}
+use Rattle.railway.specs.declared.failing_sensors.FailingSensors.{FailingSensors}
 use Rattle.railway.specs.declared.joint.TurnoutState.{TurnoutState}
 use Rattle.railway.specs.declared.train.Place.{Place}
 use Rattle.railway.specs.declared.train.TrainState.{TrainState}
 use Rattle.railway.specs.Blocks.{default_block, length_of}
+use Rattle.railway.specs.Course.{Happening}
+use Rattle.railway.specs.Course.Happening.{Elapses, FailuresEnd, Places, SensorFails, TurnoutFails}
 use Rattle.railway.specs.Network.{Network, is_end_of, is_moving, way_on}
 use Rattle.railway.specs.Places.{is_derailed, leading_end, span, turned_place}
 use Rattle.railway.specs.Railway.{run_under}
-use Rattle.railway.specs.Reports.{is_occupied, occupies}
+use Rattle.railway.specs.Reports.{occupies}
 use Rattle.railway.specs.Trains.{drive_of, is_forward, running_in, speed_of}
 use Rattle.railway.specs.Turnouts.{checked, moved_on, laid}
 
@@ -90,21 +93,34 @@ moved_on_under Paused micros state = moved_on micros state
 abbrev pub is_moving_end : List TurnoutState → BlockEnd → Bool
 is_moving_end states end = list_any (λ state. is_moving state && is_end_of end state) states
 
--- one of the turnouts has this switch
-abbrev pub has_switch : List TurnoutState → (switch : ℕ) → Bool
-has_switch states switch = list_any (λ state. state.turnout.switch == switch) states
+-- a happening is a failure, or ends all
+abbrev pub is_failure : Happening → Bool
+is_failure (Elapses micros power nodes) = false
+is_failure (Places train position) = false
+is_failure (SensorFails sensor occupied) = true
+is_failure (TurnoutFails switch) = true
+is_failure FailuresEnd = true
 
--- a report is one of a change: of a sensor whose block was not as it says, and now is
-pub record IsChange (blocks : List Block) (was is : List TrainState)
+-- it is one of a sensor
+abbrev pub is_sensor_failure : Happening → Bool
+is_sensor_failure (TurnoutFails switch) = false
+is_sensor_failure other = is_failure other
+
+-- the failing sensors are those of all blocks
+abbrev pub HasAllBlocks : FailingSensors → Type 0
+HasAllBlocks failing = (length failing.occupied ≡ 64) × (length failing.free ≡ 64)
+
+-- a report is one of a change: of a sensor whose level was not as it says, and now is
+pub record IsChange (blocks : List Block) (was is : (block : ℕ) → Bool)
     (report : SensorReport) : Type 0 where
   pub block : ℕ
   pub of_plan : block < length blocks
   pub sensor : (slice_index_or blocks block default_block).sensor ≡ Some report.sensor
-  pub before : is_occupied was block ≡ not report.occupied
-  pub after : is_occupied is block ≡ report.occupied
+  pub before : was block ≡ not report.occupied
+  pub after : is block ≡ report.occupied
 
 -- each of the reports is one of a change
-abbrev pub AreChanges : List Block → (was is : List TrainState) → List SensorReport → Type 0
+abbrev pub AreChanges : List Block → (was is : (block : ℕ) → Bool) → List SensorReport → Type 0
 AreChanges blocks was is [] = Unit {0}
 AreChanges blocks was is (report ∷ reports) =
     IsChange blocks was is report × AreChanges blocks was is reports

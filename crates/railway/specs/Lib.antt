@@ -4,6 +4,7 @@ pub mod Conflicts
 pub mod Course
 pub mod Decoders
 pub mod Ends
+pub mod Failures
 pub mod Faults
 pub mod Laws
 pub mod Network

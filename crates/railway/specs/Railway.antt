@@ -11,28 +11,32 @@ use Rattle.railway.specs.declared.exit.Onward.{Onward}
 use Rattle.railway.specs.declared.exit.Onward.TheVariants.{To, BufferStop, Against}
 use Rattle.railway.specs.declared.fault.PlaceFault.{PlaceFault}
 use Rattle.railway.specs.declared.fault.PlaceFault.TheVariants.{UnknownTrain, UnknownBlock, OffTrack}
+use Rattle.railway.specs.declared.failing_sensors.FailingSensors.{FailingSensors}
 use Rattle.railway.specs.declared.plan.Plan.{Plan}
 use Rattle.railway.specs.declared.train.Position.{Position}
 use Rattle.railway.specs.declared.train.Train.{Train}
 use Rattle.railway.specs.declared.train.TrainState.{TrainState}
+use Rattle.railway.specs.Failures.{none_failing}
 use Rattle.railway.specs.Network.{Network, is_sound, is_whole, onward}
 use Rattle.railway.specs.Placement.{has_front, is_room, state_of_train}
 use Rattle.railway.specs.Places.{leading_end, still}
-use Rattle.railway.specs.Reports.{changes}
+use Rattle.railway.specs.Reports.{changes, senses}
 use Rattle.railway.specs.Running.{is_within, run_for}
 use Rattle.railway.specs.Trains.{default_state, is_movable, running_in}
 use Rattle.railway.specs.Turnouts.{advanced, checked, is_calm, laid, network_of}
 
--- the track as the turnouts lie, and the trains as they are
+-- the track as the turnouts lie, the trains as they are, and the sensors that fail
 pub record RailwayState : Type 0 where
   pub network : Network
   pub trains : List TrainState
+  pub failing : FailingSensors
 
 -- the railway of a plan, with these decoders
 abbrev pub planned : List NodeSpec → Plan → RailwayState
 planned specs plan = record {
   network = network_of specs plan;
   trains = map (state_of_train (network_of specs plan)) plan.trains.items;
+  failing = none_failing;
 }
 
 -- a train is at least a millimetre long, has its ends in blocks of the plan within their lengths, is
@@ -60,7 +64,7 @@ run_under Paused network micros nodes train = run_in network micros nodes train
 
 -- the turnouts lie as the decoders move them, and derail the trains under which they are thrown
 abbrev pub laid_in : List Node → RailwayState → RailwayState
-laid_in nodes railway = record {
+laid_in nodes railway = record railway {
   network = laid nodes railway.network;
   trains = map (checked nodes railway.network) railway.trains;
 }
@@ -73,7 +77,7 @@ advanced_under Paused micros network = advanced micros network
 
 -- each train runs as its own decoder runs, on the track as the turnouts lie at first
 abbrev pub ran_in : Power → (micros : ℕ) → List Node → RailwayState → RailwayState
-ran_in power micros nodes railway = record {
+ran_in power micros nodes railway = record railway {
   network = advanced_under power micros railway.network;
   trains = map (run_under power railway.network micros nodes) railway.trains;
 }
@@ -93,10 +97,15 @@ is_piece Paused micros network = is_calm micros network
 abbrev pub elapsed : RailwayState → (micros : ℕ) → Power → List Node → RailwayState
 elapsed railway micros power nodes = run_through power micros nodes (laid_in nodes railway)
 
+-- the sensor of a block finds it occupied
+abbrev pub is_sensed : RailwayState → (block : ℕ) → Bool
+is_sensed railway block = senses railway.failing railway.trains block
+
 -- what the sensors report of it
 abbrev pub reports_in : RailwayState → (micros : ℕ) → Power → List Node → List SensorReport
 reports_in railway micros power nodes =
-    changes railway.network.blocks railway.trains (elapsed railway micros power nodes).trains
+    changes railway.network.blocks (is_sensed railway)
+    (is_sensed (elapsed railway micros power nodes))
 
 abbrev pub unless_held : Onward → (speed : ℕ) → ℕ
 unless_held (To place) speed = speed

@@ -1,11 +1,12 @@
 -- What sensors report, and what an observer knows by it.
-use Rattle.std.specs.Prelude.{ℕ, ◌≡◌, ◌<◌, ◌+◌, ◌==◌, ◌&&◌, ◌++◌, Bool, true, false, nat_lt, not, if◌then◌else◌, List, [], ◌∷◌, Option, Some, None}
+use Rattle.std.specs.Prelude.{ℕ, ◌≡◌, ◌<◌, ◌+◌, ◌==◌, ◌&&◌, ◌||◌, ◌++◌, Bool, true, false, nat_lt, not, if◌then◌else◌, List, [], ◌∷◌, Option, Some, None}
 use Rattle.std.specs.Bool.{beq}
 use Rattle.std.specs.Cmp.Lexicographic.{pointwise}
 use Rattle.std.specs.List.{list_any, slice_index_or}
 use Rattle.ln_ops.specs.Sensor.{is_sensor}
 use Rattle.ln_ops.specs.declared.sensor.SensorReport.{SensorReport}
 use Rattle.railway.specs.declared.block.Block.{Block}
+use Rattle.railway.specs.declared.failing_sensors.FailingSensors.{FailingSensors}
 use Rattle.railway.specs.declared.train.TrainState.{TrainState}
 use Rattle.railway.specs.Turnouts.{same_bool}
 
@@ -20,6 +21,13 @@ same_blocks one other = pointwise beq one.under other.under
 -- a part of one of the trains is
 abbrev pub is_occupied : List TrainState → (block : ℕ) → Bool
 is_occupied trains block = list_any (occupies block) trains
+
+-- The sensor of a block finds it occupied: a part of one of the trains is in it. One that fails finds
+-- what it is told.
+abbrev pub senses : FailingSensors → List TrainState → (block : ℕ) → Bool
+senses failing trains block =
+    (is_occupied trains block || slice_index_or failing.occupied block false)
+    && not (slice_index_or failing.free block false)
 
 -- a report of a sensor, 1 to 4096
 abbrev pub is_report : SensorReport → Bool
@@ -37,23 +45,22 @@ onto None reports = reports
 onto (Some report) reports = report ∷ reports
 
 -- what sensors report whose blocks change to this level, from block i on
-abbrev pub changes_from : (level : Bool) → (was is : List TrainState) → (i : ℕ) → List Block
+abbrev pub changes_from : (level : Bool) → (was is : (block : ℕ) → Bool) → (i : ℕ) → List Block
     → List SensorReport
 changes_from level was is i [] = []
 changes_from level was is i (block ∷ blocks) =
-    onto (change_of level block.sensor (is_occupied was i) (is_occupied is i))
-    (changes_from level was is (i + 1) blocks)
+    onto (change_of level block.sensor (was i) (is i)) (changes_from level was is (i + 1) blocks)
 
--- what they report as trains move: each block that becomes occupied, then each that becomes free
-abbrev pub changes : List Block → (was is : List TrainState) → List SensorReport
+-- what they report as their levels change: each block that becomes occupied, then each that becomes
+-- free
+abbrev pub changes : List Block → (was is : (block : ℕ) → Bool) → List SensorReport
 changes blocks was is = changes_from true was is 0 blocks ++ changes_from false was is 0 blocks
 
--- these marks are those of the blocks in which a part of one of the trains is
-abbrev pub AreOccupied : List TrainState → (marks : List Bool) → Type 0
-AreOccupied trains marks =
-    (block : ℕ) → block < 64 → slice_index_or marks block false ≡ is_occupied trains block
+-- these marks are those of the blocks with this level
+abbrev pub AreMarked : (is : (block : ℕ) → Bool) → (marks : List Bool) → Type 0
+AreMarked is marks = (block : ℕ) → block < 64 → slice_index_or marks block false ≡ is block
 
--- what sensors report as blocks with these marks were occupied and now those with others are
+-- what sensors report that found the blocks with these marks occupied and now find those with others
 abbrev pub changes_in : (level : Bool) → (was is : List Bool) → (i : ℕ) → List Block
     → List SensorReport
 changes_in level was is i [] = []
@@ -64,18 +71,25 @@ changes_in level was is i (block ∷ blocks) =
 abbrev pub changes_of : (was is : List Bool) → List Block → List SensorReport
 changes_of was is blocks = changes_in true was is 0 blocks ++ changes_in false was is 0 blocks
 
+-- the report of a sensor with this level
 abbrev pub level_of : Option ℕ → Bool → Option SensorReport
 level_of None is = None
 level_of (Some sensor) is = Some (record { sensor = sensor; occupied = is })
 
-abbrev pub full_from : List TrainState → (i : ℕ) → List Block → List SensorReport
-full_from trains i [] = []
-full_from trains i (block ∷ blocks) =
-    onto (level_of block.sensor (is_occupied trains i)) (full_from trains (i + 1) blocks)
+abbrev pub full_from : (is : (block : ℕ) → Bool) → (i : ℕ) → List Block → List SensorReport
+full_from is i [] = []
+full_from is i (block ∷ blocks) =
+    onto (level_of block.sensor (is i)) (full_from is (i + 1) blocks)
 
--- a full report: each sensor, as its block is
-abbrev pub full : List Block → List TrainState → List SensorReport
-full blocks trains = full_from trains 0 blocks
+-- a full report: each sensor with its level
+abbrev pub full : List Block → (is : (block : ℕ) → Bool) → List SensorReport
+full blocks is = full_from is 0 blocks
+
+-- a full report of sensors that find the blocks with these marks occupied, from block i on
+abbrev pub full_in : (is : List Bool) → (i : ℕ) → List Block → List SensorReport
+full_in is i [] = []
+full_in is i (block ∷ blocks) =
+    onto (level_of block.sensor (slice_index_or is i false)) (full_in is (i + 1) blocks)
 
 -- the level that an observer of these reports knows of a sensor: that of its last one
 abbrev pub level_after : List SensorReport → (sensor : ℕ) → Bool → Bool

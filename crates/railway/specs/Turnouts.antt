@@ -47,9 +47,10 @@ seen_of was (Some is) = is
 abbrev pub pair_of : (switch : ℕ) → ℕ
 pair_of switch = (switch - 1) % 4
 
--- the side that a turnout is asked for by its decoder
+-- the side that a turnout is asked for by its decoder; one that fails follows no output
 abbrev pub side_in : List Node → TurnoutState → Bool
 side_in nodes state =
+    if state.fails then state.is_thrown else
     side_of state.outputs (outputs_in nodes state.decoder) (pair_of state.turnout.switch)
     state.is_thrown
 
@@ -132,6 +133,7 @@ state_of_turnout specs turnout = record {
   is_thrown = false;
   left = 0;
   outputs = 0;
+  fails = false;
 }
 
 -- the network of a plan, with these decoders

@@ -1,5 +1,5 @@
 //! Sets of blocks.
-ghost use Rattle.std.specs.Prelude.{◌≡◌, ◌<◌, ◌||◌, ℕ, slice_set, true, false};
+ghost use Rattle.std.specs.Prelude.{◌≡◌, ◌<◌, ◌||◌, ◌&&◌, ℕ, not, slice_set, true, false};
 ghost use Rattle.std.specs.Bool.{beq};
 ghost use Rattle.std.specs.Cmp.Lexicographic.{pointwise};
 ghost use Rattle.std.specs.List.{slice_index_or};
@@ -56,6 +56,27 @@ impl BlockSet {
     {
         BlockSet {
             bits: self.bits | (1 << block),
+        }
+    }
+
+    /// Returns the set without a block.
+    pub(crate) fn without(self, block: u8) -> BlockSet
+        requires { block < 64 }
+        ensures { result ≡ slice_set self block false }
+    {
+        BlockSet {
+            bits: self.bits & !(1 << block),
+        }
+    }
+
+    /// Returns the blocks of this set that are not in another.
+    pub(crate) fn minus(self, other: BlockSet) -> BlockSet
+        ensures { (block : ℕ) → block < 64
+            → slice_index_or result block false
+            ≡ (slice_index_or self block false && not (slice_index_or other block false)) }
+    {
+        BlockSet {
+            bits: self.bits & !other.bits,
         }
     }
 

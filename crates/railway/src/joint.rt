@@ -37,6 +37,8 @@ pub struct TurnoutState {
     pub left: u32,
     /// The outputs of its decoder when they were seen last: bit i is that of output i.
     pub outputs: u8,
+    /// Whether it follows no output, because it fails.
+    pub fails: bool,
 }
 
 impl Default for Joint {
@@ -77,6 +79,7 @@ impl Default for TurnoutState {
             is_thrown: false,
             left: 0,
             outputs: 0,
+            fails: false,
         }
     }
 }

@@ -13,19 +13,21 @@ ghost use Rattle.railway.specs.declared.block.BlockEnd.{BlockEnd};
 ghost use Rattle.railway.specs.declared.conflict.Conflict.{Conflict};
 ghost use Rattle.railway.specs.declared.exit.Exit.TheVariants.{Leads, Against as ExitAgainst};
 ghost use Rattle.railway.specs.declared.exit.Onward.TheVariants.{BufferStop, Against};
+ghost use Rattle.railway.specs.declared.failing_sensors.FailingSensors.{FailingSensors};
 ghost use Rattle.railway.specs.declared.joint.TurnoutState.{TurnoutState};
 ghost use Rattle.railway.specs.declared.train.Place.{Place};
 ghost use Rattle.railway.specs.declared.train.TrainState.{TrainState};
 ghost use Rattle.railway.specs.Blocks.{default_block, length_of};
 ghost use Rattle.railway.specs.Conflicts.{conflict_in};
 ghost use Rattle.railway.specs.Course.{Happening, after, after_all, reports_of_all};
-ghost use Rattle.railway.specs.Laws.{AreChanges, IsConflict, IsOnRails, IsOnWay, StandsBetween, has_switch, is_moving_end, leading, moved_on_under, runs_only, speed_times_time, train_after, velocity_of, way_of};
+ghost use Rattle.railway.specs.Laws.{AreChanges, HasAllBlocks, IsConflict, IsOnRails, IsOnWay, StandsBetween, is_failure, is_moving_end, is_sensor_failure, leading, moved_on_under, runs_only, speed_times_time, train_after, velocity_of, way_of};
+ghost use Rattle.railway.specs.Failures.{failing_by, has_switch, none_failing, told};
 ghost use Rattle.railway.specs.Network.{Network, exit_of, is_sound, lies, onward, switch_at, way_on};
 ghost use Rattle.railway.specs.Places.{end_ahead, is_derailed, leading_end, span, still, to_end};
-ghost use Rattle.railway.specs.Railway.{RailwayState, elapsed, is_piece, is_railway, is_train, laid_in, ran_in, reports_in, run_in, run_under};
-ghost use Rattle.railway.specs.Reports.{full, is_occupied, level_after, occupies};
+ghost use Rattle.railway.specs.Railway.{RailwayState, elapsed, is_piece, is_railway, is_sensed, is_train, laid_in, ran_in, reports_in, run_in, run_under};
+ghost use Rattle.railway.specs.Reports.{full, is_occupied, level_after, occupies, senses};
 ghost use Rattle.railway.specs.Trains.{is_forward, running_in};
-ghost use Rattle.railway.specs.Turnouts.{asked, checked, is_moved_end, laid, moved_on, observed};
+ghost use Rattle.railway.specs.Turnouts.{asked, checked, is_changed, is_moved_end, laid, moved_on, observed, outputs_in, seen_of};
 
 /// Each train is in blocks of the plan, within their lengths. Its ends are as far apart as its
 /// length along the track, in both directions, or it is derailed.
@@ -256,27 +258,57 @@ pub fn tracks_lead_back()
         → exit_of network end ≡ Leads next → exit_of network next ≡ Leads end }
 {}
 
-/// An observer of a full report and of each report from then on knows each sensor as its block
-/// is.
+/// An observer of a full report and of each report from then on knows each sensor as it finds its
+/// block, also while sensors fail.
 pub fn observers_know()
     ensures full { (railway : RailwayState) (block sensor : ℕ) (before : Bool)
         → IsTrue (is_railway railway) → block < length railway.network.blocks
         → (slice_index_or railway.network.blocks block default_block).sensor ≡ Some sensor
-        → level_after (full railway.network.blocks railway.trains) sensor before
-        ≡ is_occupied railway.trains block }
+        → level_after (full railway.network.blocks (is_sensed railway)) sensor before
+        ≡ is_sensed railway block }
     ensures after { (railway : RailwayState) (happenings : List Happening) (block sensor : ℕ)
         → IsTrue (is_railway railway) → block < length railway.network.blocks
         → (slice_index_or railway.network.blocks block default_block).sensor ≡ Some sensor
         → level_after (reports_of_all railway happenings) sensor
-        (is_occupied railway.trains block)
-        ≡ is_occupied (after_all railway happenings).trains block }
+        (is_sensed railway block)
+        ≡ is_sensed (after_all railway happenings) block }
+{}
+
+/// A sensor that fails finds what it is told, wherever trains are, until all failures end; each other
+/// finds its block. Failures move no train.
+pub fn failing_sensors_find_what_they_are_told()
+    ensures told { (failing : FailingSensors) (trains : List TrainState) (block : ℕ)
+        (occupied : Bool) → HasAllBlocks failing → block < 64
+        → senses (told failing block occupied) trains block ≡ occupied }
+    ensures others { (failing : FailingSensors) (trains : List TrainState) (block other : ℕ)
+        (occupied : Bool) → other ≢ block
+        → senses (told failing block occupied) trains other ≡ senses failing trains other }
+    ensures blocks { (failing : FailingSensors) (block : ℕ) (occupied : Bool)
+        → HasAllBlocks failing → HasAllBlocks (told failing block occupied) }
+    ensures none { (trains : List TrainState) (block : ℕ) → block < 64
+        → senses none_failing trains block ≡ is_occupied trains block }
+    ensures stays { (railway : RailwayState) (happening : Happening)
+        → is_sensor_failure happening ≡ false
+        → (after railway happening).failing ≡ railway.failing }
+    ensures trains { (railway : RailwayState) (happening : Happening)
+        → IsTrue (is_failure happening) → (after railway happening).trains ≡ railway.trains }
+{}
+
+/// A turnout that fails stays as it lies, or goes on to where it moves, whatever its decoder does.
+/// As the failure ends it stays until an output comes on.
+pub fn failing_turnouts_stay()
+    ensures stays { (state : TurnoutState) (nodes : List Node) → IsTrue state.fails
+        → observed nodes state
+        ≡ record state { outputs = seen_of state.outputs (outputs_in nodes state.decoder) } }
+    ensures ends { (state : TurnoutState) (nodes : List Node) → is_changed nodes state ≡ false
+        → observed nodes (failing_by None state) ≡ failing_by None state }
 {}
 
 /// Nothing is reported without a change.
 pub fn reports_are_changes()
     ensures changes { (railway : RailwayState) (micros : ℕ) (power : Power) (nodes : List Node)
-        → AreChanges railway.network.blocks railway.trains
-        (elapsed railway micros power nodes).trains (reports_in railway micros power nodes) }
+        → AreChanges railway.network.blocks (is_sensed railway)
+        (is_sensed (elapsed railway micros power nodes)) (reports_in railway micros power nodes) }
 {}
 
 /// A conflict is reported of a block exactly if two different trains are in it.

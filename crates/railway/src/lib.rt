@@ -24,6 +24,8 @@ mod block_set;
 mod checking;
 mod conflict;
 mod exit;
+mod failing;
+mod failing_sensors;
 mod fault;
 mod joint;
 pub mod laws;

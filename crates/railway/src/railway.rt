@@ -1,17 +1,19 @@
 //! A railway: the track and the trains on it.
-ghost use Rattle.std.specs.Prelude.{◌≡◌, ◌<◌, ◌≤◌, IfErr, IfOk, IsTrue, List, None, OnErr, OnOk, Some, length, map};
+ghost use Rattle.std.specs.Prelude.{◌≡◌, ◌<◌, ◌≤◌, ℕ, Bool, IfErr, IfOk, IsTrue, List, None, OnErr, OnOk, Some, length, map};
 ghost use Rattle.std.specs.List.{list_all};
 ghost use Rattle.railway.specs.Conflicts.{conflicts};
 ghost use Rattle.railway.specs.Faults.{fault_of};
 ghost use Rattle.railway.specs.Network.{exit_of};
-ghost use Rattle.railway.specs.Railway.{elapsed, is_piece, is_railway, laid_in, place_fault, placed_in, planned, reports_in, run_through, speed_in};
-ghost use Rattle.railway.specs.Reports.{changes, full, is_occupied, is_report};
+ghost use Rattle.railway.specs.Railway.{elapsed, is_piece, is_sensed, is_railway, laid_in, place_fault, placed_in, planned, reports_in, run_through, speed_in};
+ghost use Rattle.railway.specs.Reports.{AreMarked, changes, full, is_occupied, is_report};
 ghost use Rattle.railway.specs.Turnouts.{state_of_turnout};
 
 use crate::block::{Block, BlockEnd};
+use crate::block_set::BlockSet;
 use crate::checking::{decoder_of, fault_of_track};
 use crate::conflict::{Conflicts, conflicts};
 use crate::exit::Exit;
+use crate::failing_sensors::FailingSensors;
 use crate::fault::{PlaceFault, PlanFault};
 use crate::joint::{Joint, Turnout, TurnoutState};
 use crate::placement::has_front;
@@ -29,8 +31,9 @@ use std::marker::Model;
 /// Contracts see it as a `RailwayState`.
 #[derive(Drop)]
 pub struct Railway {
-    track: Track,
+    pub(crate) track: Track,
     trains: Trains,
+    pub(crate) failing: FailingSensors,
 }
 
 impl Model for Railway {
@@ -39,11 +42,16 @@ impl Model for Railway {
 
     ghost Value = { RailwayState };
 
-    ghost view = { λ r. record { network = r.track; trains = r.trains.items } };
+    ghost view = { λ r. record {
+      network = r.track;
+      trains = r.trains.items;
+      failing = r.failing;
+    } };
 
     ghost invariant = { λ r. IsTrue (is_railway (record {
       network = r.track;
       trains = r.trains.items;
+      failing = r.failing;
     })) };
 }
 
@@ -71,7 +79,11 @@ impl Railway {
             None => {}
         }
         let trains = track.train_states(plan.trains.as_slice());
-        Ok(Railway { track, trains })
+        Ok(Railway {
+            track,
+            trains,
+            failing: FailingSensors::none(),
+        })
     }
 
     /// What holds of every railway.
@@ -85,8 +97,8 @@ impl Railway {
     ///
     /// A turnout moves to the side of the output that came on last, and takes its time. A train runs as
     /// its decoder runs, up to a buffer stop. It is derailed if a turnout begins to move under it, or
-    /// moves or lies against it. Without track power trains and turnouts stand. Returns the reports of the sensors whose blocks became occupied, then of those
-    /// that became free.
+    /// moves or lies against it. Without track power trains and turnouts stand. Returns the reports of the
+    /// sensors that now find their blocks occupied, then of those that find them free.
     pub fn elapse(&mut self, micros: u32, world: &World) -> Reports
         ensures railway { self.new
             ≡ elapsed self.old micros world.now.station.powered.power world.now.nodes }
@@ -94,12 +106,10 @@ impl Railway {
             ≡ reports_in self.old micros world.now.station.powered.power world.now.nodes }
         ensures sensors { IsTrue (list_all is_report result.items) }
     {
+        let before = self.sensed();
         self.lay(world);
-        let before = occupied(self.trains.as_slice());
         self.pass(micros, world);
-        let after = occupied(self.trains.as_slice());
-        let track = &self.track;
-        changes(track.blocks.as_slice(), before, after)
+        self.changes_since(before)
     }
 
     /// Lets `micros` microseconds pass in which no decoder does anything else: in pieces, each until
@@ -155,8 +165,8 @@ impl Railway {
     /// Puts a train on the track, derailed or not: its front at a position, the rest behind it, over any
     /// number of blocks, as the turnouts lie. It is at rest.
     ///
-    /// Returns the reports of the sensors whose blocks became occupied, then of those that became
-    /// free.
+    /// Returns the reports of the sensors that now find their blocks occupied, then of those that find
+    /// them free.
     ///
     /// Fails, and changes nothing, if there is no such train or block, if the front is not in the
     /// block there, or if the track behind it ends before the train does.
@@ -166,19 +176,41 @@ impl Railway {
         ensures fits { OnOk result (place_fault self.old train position ≡ None) }
         ensures railway { OnOk result (self.new ≡ placed_in self.old train position) }
         ensures reports { IfOk result (λ reports. reports.items
-            ≡ changes self.old.network.blocks self.old.trains self.new.trains) }
+            ≡ changes self.old.network.blocks (is_sensed self.old) (is_sensed self.new)) }
         ensures sensors { IfOk result (λ reports. IsTrue (list_all is_report reports.items)) }
     {
         if let Some(fault) = self.place_fault(train, position) {
             return Err(fault);
         }
+        let before = self.sensed();
+        self.put(train, position);
+        Ok(self.changes_since(before))
+    }
+
+    /// Puts a train at a position where it can be put.
+    fn put(&mut self, train: usize, position: Position)
+        requires { place_fault self.old train position ≡ None }
+        ensures { self.new ≡ placed_in self.old train position }
+    {
         let track = &self.track;
-        let old = self.trains.as_slice();
-        let trains = track.replaced(old, train, position);
-        let (before, after) = (occupied(old), occupied(trains.as_slice()));
-        let reports = changes(track.blocks.as_slice(), before, after);
-        self.trains = trains;
-        Ok(reports)
+        self.trains = track.replaced(self.trains.as_slice(), train, position);
+    }
+
+    /// Returns the blocks that the sensors find occupied.
+    pub(crate) fn sensed(&self) -> BlockSet
+        ensures { AreMarked (is_sensed self.now) result }
+    {
+        self.failing.sensed(occupied(self.trains.as_slice()))
+    }
+
+    /// Returns what the sensors report that found these blocks occupied before.
+    pub(crate) fn changes_since(&self, before: BlockSet) -> Reports
+        ensures reports { (was : (block : ℕ) → Bool) → AreMarked was before
+            → result.items ≡ changes self.now.network.blocks was (is_sensed self.now) }
+        ensures sensors { IsTrue (list_all is_report result.items) }
+    {
+        let track = &self.track;
+        changes(track.blocks.as_slice(), before, self.sensed())
     }
 
     /// Returns why a train cannot be put at a position, if it cannot.
@@ -199,13 +231,13 @@ impl Railway {
         None
     }
 
-    /// Returns a full report: each sensor, as its block is.
+    /// Returns a full report: each sensor, as it finds its block.
     pub fn report_all(&self) -> Reports
-        ensures reports { result.items ≡ full self.now.network.blocks self.now.trains }
+        ensures reports { result.items ≡ full self.now.network.blocks (is_sensed self.now) }
         ensures sensors { IsTrue (list_all is_report result.items) }
     {
         let track = &self.track;
-        full(track.blocks.as_slice(), self.trains.as_slice())
+        full(track.blocks.as_slice(), self.sensed())
     }
 
     /// Whether a part of a train is in a block.
@@ -304,5 +336,6 @@ fn turnout_state(decoders: &[NodeSpec], turnout: &Turnout) -> TurnoutState
         is_thrown: false,
         left: 0,
         outputs: 0,
+        fails: false,
     }
 }

@@ -36,7 +36,11 @@ pub(crate) fn observed(world: &World, state: &TurnoutState) -> TurnoutState
     ensures { result ≡ observed world.now.nodes state.now }
 {
     let outputs = outputs(world, state.decoder);
-    let is_thrown = side(state, outputs);
+    let is_thrown = if state.fails {
+        state.is_thrown
+    } else {
+        side(state, outputs)
+    };
     TurnoutState {
         is_thrown,
         left: state.left_to(is_thrown),

@@ -1,7 +1,7 @@
 //! What the sensors report.
 ghost use Rattle.std.specs.Prelude.{◌≡◌, ◌≤◌, ◌+◌, ◌++◌, length};
 ghost use Rattle.arrayvec.specs.ArrayVec.{array_vec_len};
-ghost use Rattle.railway.specs.Reports.{AreOccupied, change_of, changes_in, changes_of, full, is_occupied, occupies, same_blocks};
+ghost use Rattle.railway.specs.Reports.{AreMarked, change_of, changes_in, changes_of, full_in, is_occupied, occupies, same_blocks};
 
 use crate::block::Block;
 use crate::block_set::BlockSet;
@@ -41,7 +41,7 @@ pub(crate) fn is_occupied(trains: &[TrainState], block: usize) -> bool
 
 /// Returns the blocks in which a part of one of the trains is.
 pub(crate) fn occupied(trains: &[TrainState]) -> BlockSet
-    ensures { AreOccupied trains.now result }
+    ensures { AreMarked (is_occupied trains.now) result }
 {
     let mut blocks = BlockSet::empty();
     for train in trains {
@@ -50,8 +50,8 @@ pub(crate) fn occupied(trains: &[TrainState]) -> BlockSet
     blocks
 }
 
-/// Returns what the sensors report as these blocks were occupied and now those are: first the sensors
-/// whose block becomes occupied, then those whose block becomes free.
+/// Returns what the sensors report that found these blocks occupied and now find those: first the
+/// sensors whose block becomes occupied, then those whose block becomes free.
 #[tactic(auto, using(crate::proofs::Occupying::no_changes))]
 pub(crate) fn changes(blocks: &[Block], was: BlockSet, is: BlockSet) -> Reports
     requires { length blocks.now ≤ 64 }
@@ -93,17 +93,17 @@ fn change_of(level: bool, sensor: Option<u16>, was: bool, is: bool) -> Option<Se
     }
 }
 
-/// Returns a full report: each sensor, as its block is.
-pub(crate) fn full(blocks: &[Block], trains: &[TrainState]) -> Reports
+/// Returns a full report of sensors that find these blocks occupied.
+pub(crate) fn full(blocks: &[Block], is: BlockSet) -> Reports
     requires { length blocks.now ≤ 64 }
-    ensures { result.items ≡ full blocks.now trains.now }
+    ensures { result.items ≡ full_in is 0 blocks.now }
 {
     let mut reports = ArrayVec::new();
     for (i, block) in blocks.iter().enumerate() {
         if let Some(sensor) = block.sensor {
             reports.push(SensorReport {
                 sensor,
-                occupied: is_occupied(trains, i),
+                occupied: is.has(i),
             });
         }
     }

@@ -5,8 +5,8 @@ use Rattle.railway.specs.declared.block.Block.{Block}
 use Rattle.railway.specs.Blocks.{are_distinct, default_block}
 use Rattle.railway.specs.Course.{Happening, after, after_all, reports_of, reports_of_all}
 use Rattle.railway.specs.Network.{is_sound}
-use Rattle.railway.specs.Railway.{RailwayState, is_railway, is_train}
-use Rattle.railway.specs.Reports.{is_occupied, level_after}
+use Rattle.railway.specs.Railway.{RailwayState, is_railway, is_sensed, is_train}
+use Rattle.railway.specs.Reports.{level_after}
 use Rattle.railway.proofs.Leading.{sound}
 use Rattle.railway.proofs.Observing.{knows_changes, knows_full, level_after-append}
 use Rattle.railway.proofs.Placing.{same-blocks}
@@ -19,19 +19,19 @@ distinct railway h = (sound railway.network (and_parts (is_sound railway.network
 abbrev IsKnown : (blocks : List Block) (railway : RailwayState) (happenings : List Happening) → Type 0
 IsKnown blocks railway happenings =
     (block sensor : ℕ) → are_distinct blocks ≡ true → block < length blocks → (slice_index_or blocks block default_block).sensor ≡ Some sensor
-    → level_after (reports_of_all railway happenings) sensor (is_occupied railway.trains block) ≡ is_occupied (after_all railway happenings).trains block
+    → level_after (reports_of_all railway happenings) sensor (is_sensed railway block) ≡ is_sensed (after_all railway happenings) block
 
 knows : (railway : RailwayState) (happenings : List Happening) → IsKnown railway.network.blocks railway happenings
 knows railway [] block sensor apart h there = refl
 knows railway (happening ∷ happenings) block sensor apart h there =
     let then = after railway happening in
     let rest : IsKnown railway.network.blocks then happenings = subst (λ (blocks : List Block). IsKnown blocks then happenings) (same-blocks railway happening) (knows then happenings) in
-    level_after-append (reports_of railway happening) (reports_of_all then happenings) sensor (is_occupied railway.trains block)
-    ∙ ap (λ (level : _). level_after (reports_of_all then happenings) sensor level) (knows_changes railway.network.blocks railway.trains then.trains block sensor apart h there)
+    level_after-append (reports_of railway happening) (reports_of_all then happenings) sensor (is_sensed railway block)
+    ∙ ap (λ (level : _). level_after (reports_of_all then happenings) sensor level) (knows_changes railway.network.blocks (is_sensed railway) (is_sensed then) block sensor apart h there)
     ∙ rest block sensor apart h there
 
 pub returns-clause-full : goal.returns-clause-full
-returns-clause-full c railway block sensor before is h there = knows_full railway.network.blocks railway.trains block sensor before (distinct railway is) h there
+returns-clause-full c railway block sensor before is h there = knows_full railway.network.blocks (is_sensed railway) block sensor before (distinct railway is) h there
 
 pub returns-clause-after : goal.returns-clause-after
 returns-clause-after c railway happenings block sensor is h there = knows railway happenings block sensor (distinct railway is) h there

@@ -13,7 +13,7 @@ returns-else-is_changed c =
     let trains = c.self.inside.trains.items in
     let nodes = c.args.world.now.nodes in
     let none : list_any (is_changed nodes) n.turnouts ≡ false = sym c.is_changed.ensures ∙ c.if-is_changed.false in
-    let laid_one : RailwayState = record { network = laid nodes n; trains = trains } in
+    let laid_one : RailwayState = record { network = laid nodes n; trains = trains; failing = c.self.inside.failing } in
     rw (← c.self.view_is)
     (ap (λ (m : Network). record laid_one { network = m }) (sym (unchanged-laid nodes n none))
     ∙ ap (λ (ts : List TrainState). record laid_one { trains = ts }) (sym (unmoved-trains nodes n trains (unchanged-none nodes n.turnouts none))))

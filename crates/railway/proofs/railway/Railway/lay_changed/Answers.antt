@@ -27,7 +27,7 @@ invariant_of-self c =
     let parts = and_parts (is_sound old) (list_all (is_train old) trains) c.self.invariant in
     let same : c.check_all-self-inside.result.items ≡ map (checked nodes old) trains =
     c.check_all-self-inside.ensures ∙ ap (λ (ts : List TrainState). map (checked nodes old) ts) c.as_slice.ensures.value in
-    let is : is_railway (record { network = new; trains = map (checked nodes old) trains }) ≡ true =
+    let is : is_railway (record { network = new; trains = map (checked nodes old) trains; failing = c.self.inside.failing }) ≡ true =
     and_from (is_sound new) (list_all (is_train new) (map (checked nodes old) trains)) (laid-sound nodes old parts.0) (all-checked nodes old trains parts.1) in
-    subst (λ (n : Network). is_railway (record { network = n; trains = c.check_all-self-inside.result.items }) ≡ true) (sym c.lay.ensures)
-    (subst (λ (ts : List TrainState). is_railway (record { network = new; trains = ts }) ≡ true) (sym same) is)
+    subst (λ (n : Network). is_railway (record { network = n; trains = c.check_all-self-inside.result.items; failing = c.self.inside.failing }) ≡ true) (sym c.lay.ensures)
+    (subst (λ (ts : List TrainState). is_railway (record { network = new; trains = ts; failing = c.self.inside.failing }) ≡ true) (sym same) is)

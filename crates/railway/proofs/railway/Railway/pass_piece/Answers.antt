@@ -25,13 +25,13 @@ power_of c = c.args.world.now.station.powered.power
 
 -- the railway before
 abbrev old_of : goal.After-advance → RailwayState
-old_of c = record { network = c.self.inside.track; trains = c.self.inside.trains.items }
+old_of c = record { network = c.self.inside.track; trains = c.self.inside.trains.items; failing = c.self.inside.failing }
 
 ran : (c : goal.After-advance)
-    → railway_of c.advance.new.self (refill (length c.self.inside.trains.items) c.self.inside.trains.items c.run_all.new.trains)
+    → railway_of (old_of c) c.advance.new.self (refill (length c.self.inside.trains.items) c.self.inside.trains.items c.run_all.new.trains)
     ≡ ran_in (power_of c) c.args.micros c.args.world.now.nodes (old_of c)
 ran c =
-    ap₂ (λ (n : Network) (ts : List TrainState). railway_of n ts) c.advance.ensures
+    ap₂ (λ (n : Network) (ts : List TrainState). railway_of (old_of c) n ts) c.advance.ensures
     (refilled (run_under (power_of c) c.self.inside.track c.args.micros c.args.world.now.nodes) c.self.inside.trains.items c.as_mut_slice.result.now c.run_all.new.trains c.as_mut_slice.ensures.value c.run_all.ensures)
 
 pub invariant_of-self : goal.invariant_of-self

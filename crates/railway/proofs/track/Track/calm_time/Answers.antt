@@ -9,7 +9,7 @@ pub loop-i-preserved : goal.loop-i-preserved
 loop-i-preserved c =
     let at = c.loop-i.invariant in
     let states = c.as_slice-turnouts.result.now in
-    let none : TurnoutState = record { turnout = default_turnout; decoder = 0; is_thrown = false; left = 0; outputs = 0 } in
+    let none : TurnoutState = record { turnout = default_turnout; decoder = 0; is_thrown = false; left = 0; outputs = 0; fails = false } in
     let state : TurnoutState = slice_index_or states c.loop-i.i none in
     let is = c.calmer_at-calm.ensures none in
     record {
