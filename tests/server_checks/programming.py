@@ -173,7 +173,7 @@ def arranged_track():
         for line in ("MOUNT", "MOUNT shunter express", "MOUNT shunter" + " " * 400):
             same(line, own(client, line), "MOUNT ERROR no name of a decoder")
         for line in ("FAIL", "FAIL sensor", "FAIL programming none"):
-            same(line, own(client, line), "FAIL ERROR neither programming nor none")
+            same(line, own(client, line), "FAIL ERROR no such failure")
         ended(client, READ, DONE, 1, 3)
 
 
@@ -226,8 +226,9 @@ def arranged_while_busy():
 def without_programmer():
     """MOUNT, FAIL and CVS without --programmer"""
     with serve("--turns", "0") as server, Client(server) as client:
-        for word, line in (("MOUNT", "MOUNT shunter"), ("MOUNT", "MOUNT"), ("FAIL", "FAIL programming"), ("FAIL", "FAIL none")):
+        for word, line in (("MOUNT", "MOUNT shunter"), ("MOUNT", "MOUNT"), ("FAIL", "FAIL programming")):
             same(line, own(client, line), f"{word} ERROR no programming track")
+        same("FAIL none", own(client, "FAIL none"), "FAIL OK")
         same("CVS", changes(client), ["CVS OK"])
 
 

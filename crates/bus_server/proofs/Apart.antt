@@ -26,7 +26,7 @@ use Rattle.bus_server.specs.Observations.{Observation}
 use Rattle.bus_server.specs.MainTrack.{IsSameMainTrack, without_programmer}
 use Rattle.bus_server.specs.Repeats.{inputs_of, unmissed}
 use Rattle.bus_server.specs.Running.{Round, RunsRounds, logged_in}
-use Rattle.bus_server.specs.Sensors.{is_report, railway_after, railway_placed, running_in}
+use Rattle.bus_server.specs.Sensors.{is_report, railway_after, railway_requested, running_in}
 use Rattle.bus_server.specs.ServerState.{IsDrawn, LoggedEvent, ServerState, events_of}
 use Rattle.bus_server.proofs.Hearing.{heard_same}
 use Rattle.bus_server.proofs.Repeating.{Core, Course, HasEffect, IsDrawnFor, HasMissed, core, drawn_for, draws_same, has_missed, head_same, missed_again, missed_of, no_cons, rounds_course, tail_same, with_missed}
@@ -149,7 +149,7 @@ heard_apart bus (Turn missed) old new h = h
 -- Trains are put on the track alike.
 
 placed_same : (names : List (List ℕ)) (bus : BusState) (client : ℕ) (request : Option Request) (railway : Option RailwayState)
-    → railway_placed names (outcome_of_request bus client request) railway ≡ railway_placed names (outcome_of_request (without_programmer bus) client request) railway
+    → railway_requested names (outcome_of_request bus client request) railway ≡ railway_requested names (outcome_of_request (without_programmer bus) client request) railway
 placed_same names bus client None railway = refl
 placed_same names bus client (Some (Send m)) railway = refl
 placed_same names bus client (Some (Invalid reason)) railway = refl

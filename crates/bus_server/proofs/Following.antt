@@ -303,7 +303,7 @@ is_sending (Placed client answer) = false
 is_sending (DeviceAnswered client answer) = false
 
 sending_sent : (programming : Option BenchState) (names : List (List ℕ)) (railway now : Option RailwayState) (nodes : List Node) (outcome : Outcome)
-    → is_sent (Observed (programmed programming (answered names railway outcome)) nodes now) ≡ is_sending outcome
+    → is_sent (Observed (programmed programming railway (answered names railway outcome)) nodes now) ≡ is_sending outcome
 sending_sent programming names railway now nodes (Sent client message reply) = refl
 sending_sent programming names railway now nodes Nothing = refl
 sending_sent programming names railway now nodes (Connected client) = refl

@@ -153,7 +153,7 @@ request_within client reader n (Some (Turns count)) old new queues connected few
 request_within client reader n (Some (Place placement)) old new queues connected few most room h =
     enqueues_within client n (n + 3579) (Placed reader (place_answer old.names old.railway placement)) old new queues connected few (omega (arith, most, few.0, h.1)) room h
 request_within client reader n (Some (Device request)) old new queues connected few most room h =
-    enqueues_within client n (n + 3579) (DeviceAnswered reader (device_answer old.programming request)) old new queues connected few (omega (arith, most, few.0, h.1)) room h
+    enqueues_within client n (n + 3579) (DeviceAnswered reader (device_answer old.programming old.railway request)) old new queues connected few (omega (arith, most, few.0, h.1)) room h
 request_within client reader n (Some (States things)) old new queues connected few most room h = same_within client n (n + 3579) old new queues connected few (omega (arith, few.0, h.1)) h
 
 receives_within : Limits → (client reader byte n : ℕ) (observed : Observation) (old new : ServerState) → RunsEvent (Receives reader byte) observed old new → n + 3579 ≤ 65536 → Within client n old → Within client (n + 3579) new
@@ -204,7 +204,7 @@ first_event event (one ∷ more) old new are runs = (one.observed, runs.0, more,
 -- A step of the track.
 
 turn_queues : (programming : Option BenchState) (names : List (List ℕ)) (railway : Option RailwayState) (ends : Bool) (packet : Option (List ℕ)) (queues : SendQueues)
-    → queues_after (programmed programming (answered names railway (if ends then TurnBegan packet else Nothing))) queues ≡ queues
+    → queues_after (programmed programming railway (answered names railway (if ends then TurnBegan packet else Nothing))) queues ≡ queues
 turn_queues programming names railway true packet queues = refl
 turn_queues programming names railway false packet queues = refl
 

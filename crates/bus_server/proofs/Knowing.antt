@@ -23,8 +23,8 @@ use Rattle.railway.specs.declared.block.Block.{Block}
 use Rattle.railway.specs.Blocks.{default_block}
 use Rattle.railway.specs.Course.{Happening, after, after_all, reports_of, reports_of_all}
 use Rattle.railway.specs.Course.Happening.{Elapses as TimeElapses}
-use Rattle.railway.specs.Railway.{RailwayState, is_railway}
-use Rattle.railway.specs.Reports.{full, is_occupied, level_after}
+use Rattle.railway.specs.Railway.{RailwayState, is_railway, is_sensed}
+use Rattle.railway.specs.Reports.{full, level_after}
 use Rattle.service_mode.specs.declared.packet.ServicePacket.{ServicePacket}
 use Rattle.programmer.specs.declared.reply.TaskReply.{TaskReply}
 use Rattle.programmer.specs.declared.reply.TaskReply.TheVariants.{Accepted as TaskAccepted, Busy, NotImplemented, Data}
@@ -46,9 +46,10 @@ use Rattle.bus_server.specs.Running.{Round, RunsRounds, logged_in}
 use Rattle.bus_server.specs.declared.device_report.DeviceReport.{DeviceReport}
 use Rattle.bus_server.specs.declared.device_report.DeviceReport.TheVariants.{Sensor, Packet, Ended}
 use Rattle.bus_server.specs.DeviceReports.{of_ends, of_result, of_sensors, event_of, is_legal_report, sensors_in}
+use Rattle.bus_server.specs.Failures.{happened_to, happening_by}
 use Rattle.bus_server.specs.Placement.{answered, places}
 use Rattle.bus_server.specs.Programming.{decoder_on, ends_elapsed, programmed, reply_by, reply_or}
-use Rattle.bus_server.specs.Sensors.{asks_sensors, reports_of_time, full_report, next_turn, power_of, railway_elapsed, railway_placed, reports_due, reports_elapsed}
+use Rattle.bus_server.specs.Sensors.{due_of, asks_sensors, reports_of_time, full_report, next_turn, power_of, railway_elapsed, railway_requested, reports_due, reports_elapsed}
 use Rattle.bus_server.specs.TransportEvents.{Accepted, NonePending, PeerClosed, Polled, ReadBlocked, Received, Refused, ServerClosed, TransportEvent, WriteBlocked, Written}
 use Rattle.bus_server.specs.Track.{RunsTrack}
 use Rattle.bus_server.proofs.Rounding.{round_serves}
@@ -61,10 +62,10 @@ pub record SensorLaws : Type 0 where
   pub blocks : (railway : RailwayState) (happening : Happening) → (after railway happening).network.blocks ≡ railway.network.blocks
   pub full : (railway : RailwayState) (block sensor : ℕ) (before : Bool) → IsTrue (is_railway railway) → block < length railway.network.blocks
       → (slice_index_or railway.network.blocks block default_block).sensor ≡ Some sensor
-      → level_after (full railway.network.blocks railway.trains) sensor before ≡ is_occupied railway.trains block
+      → level_after (full railway.network.blocks (is_sensed railway)) sensor before ≡ is_sensed railway block
   pub after : (railway : RailwayState) (happenings : List Happening) (block sensor : ℕ) → IsTrue (is_railway railway) → block < length railway.network.blocks
       → (slice_index_or railway.network.blocks block default_block).sensor ≡ Some sensor
-      → level_after (reports_of_all railway happenings) sensor (is_occupied railway.trains block) ≡ is_occupied (after_all railway happenings).trains block
+      → level_after (reports_of_all railway happenings) sensor (is_sensed railway block) ≡ is_sensed (after_all railway happenings) block
 
 -- The reports of more messages.
 
@@ -122,7 +123,7 @@ same_known block sensor level old new railway unreported h = (h.0, railway ∙ h
 
 -- what a client knows after the reports of a happening
 happens_known : SensorLaws → (block sensor : ℕ) (level : Bool) (happening : Happening) (railway : RailwayState) (new : ServerState) → new.railway ≡ Some (after railway happening)
-    → sensors_in new.unreported ≡ reports_of railway happening → IsTrue (is_railway railway) → IsSensorOf block sensor railway → level ≡ is_occupied railway.trains block → IsKnown block sensor level new
+    → sensors_in new.unreported ≡ reports_of railway happening → IsTrue (is_railway railway) → IsSensorOf block sensor railway → level ≡ is_sensed railway block → IsKnown block sensor level new
 happens_known laws block sensor level happening railway new beside unreported whole is known = (
   after railway happening,
   beside,
@@ -130,7 +131,7 @@ happens_known laws block sensor level happening railway new beside unreported wh
   subst (λ (blocks : List Block). (block < length blocks) × ((slice_index_or blocks block default_block).sensor ≡ Some sensor)) (sym (laws.blocks railway happening)) is,
   ap (λ (d : List SensorReport). level_after d sensor level) unreported
       ∙ ap (λ (l : Bool). level_after (reports_of railway happening) sensor l) known
-      ∙ ap (λ (all : List SensorReport). level_after all sensor (is_occupied railway.trains block)) (sym (append-nil (reports_of railway happening)))
+      ∙ ap (λ (all : List SensorReport). level_after all sensor (is_sensed railway block)) (sym (append-nil (reports_of railway happening)))
       ∙ laws.after railway (happening ∷ []) block sensor whole is.0 is.1,
 )
 
@@ -142,20 +143,28 @@ elapsed_known laws block sensor micros level programming power nodes old new non
     (ap sensors_in unreported ∙ sensors-elapsed old.railway programming micros power nodes ∙ ap (λ (r : Option RailwayState). reports_elapsed r micros power nodes) h.1)
     h.2 h.3 (sym (ap (λ (d : List DeviceReport). level_after (sensors_in d) sensor level) none) ∙ h.4)
 
-asked_level : SensorLaws → (asks level : Bool) (block sensor : ℕ) (railway : RailwayState) → IsTrue (is_railway railway) → IsSensorOf block sensor railway → level ≡ is_occupied railway.trains block
-    → level_after (sensors_in (if asks then of_sensors (full_report (Some railway)) else [])) sensor level ≡ is_occupied railway.trains block
-asked_level laws true level block sensor railway whole is known = ap (λ (d : List SensorReport). level_after d sensor level) (sensors-of (full railway.network.blocks railway.trains)) ∙ laws.full railway block sensor level whole is.0 is.1
+asked_level : SensorLaws → (asks level : Bool) (block sensor : ℕ) (railway : RailwayState) → IsTrue (is_railway railway) → IsSensorOf block sensor railway → level ≡ is_sensed railway block
+    → level_after (sensors_in (if asks then of_sensors (full_report (Some railway)) else [])) sensor level ≡ is_sensed railway block
+asked_level laws true level block sensor railway whole is known = ap (λ (d : List SensorReport). level_after d sensor level) (sensors-of (full railway.network.blocks (is_sensed railway))) ∙ laws.full railway block sensor level whole is.0 is.1
 asked_level laws false level block sensor railway whole is known = known
+
+-- after a client has arranged the devices
+device_known : SensorLaws → (block sensor : ℕ) (level : Bool) (happening : Option Happening) (railway : RailwayState) (new : ServerState)
+    → new.railway ≡ happened_to happening (Some railway) → new.unreported ≡ due_of happening (Some railway) []
+    → IsTrue (is_railway railway) → IsSensorOf block sensor railway → level ≡ is_sensed railway block → IsKnown block sensor level new
+device_known laws block sensor level None railway new beside made whole is known = (railway, beside, whole, is, ap (λ (d : List DeviceReport). level_after (sensors_in d) sensor level) made ∙ known)
+device_known laws block sensor level (Some happening) railway new beside made whole is known =
+    happens_known laws block sensor level happening railway new beside (ap sensors_in made ∙ sensors-of (reports_of railway happening)) whole is known
 
 -- after a request of a client
 request_known : SensorLaws → (names : List (List ℕ)) (block sensor : ℕ) (level : Bool) (bus : BusState) (client : ℕ) (request : Option Request) (railway : RailwayState) (new : ServerState)
-    → new.railway ≡ railway_placed names (outcome_of_request bus client request) (Some railway) → new.unreported ≡ reports_due names (outcome_of_request bus client request) (Some railway) []
-    → IsTrue (is_railway railway) → IsSensorOf block sensor railway → level ≡ is_occupied railway.trains block → IsKnown block sensor level new
+    → new.railway ≡ railway_requested names (outcome_of_request bus client request) (Some railway) → new.unreported ≡ reports_due names (outcome_of_request bus client request) (Some railway) []
+    → IsTrue (is_railway railway) → IsSensorOf block sensor railway → level ≡ is_sensed railway block → IsKnown block sensor level new
 request_known laws names block sensor level bus client None railway new beside made whole is known = (railway, beside, whole, is, ap (λ (d : List DeviceReport). level_after (sensors_in d) sensor level) made ∙ known)
 request_known laws names block sensor level bus client (Some (Invalid reason)) railway new beside made whole is known = (railway, beside, whole, is, ap (λ (d : List DeviceReport). level_after (sensors_in d) sensor level) made ∙ known)
 request_known laws names block sensor level bus client (Some (Turns count)) railway new beside made whole is known = (railway, beside, whole, is, ap (λ (d : List DeviceReport). level_after (sensors_in d) sensor level) made ∙ known)
 request_known laws names block sensor level bus client (Some (States things)) railway new beside made whole is known = (railway, beside, whole, is, ap (λ (d : List DeviceReport). level_after (sensors_in d) sensor level) made ∙ known)
-request_known laws names block sensor level bus client (Some (Device request)) railway new beside made whole is known = (railway, beside, whole, is, ap (λ (d : List DeviceReport). level_after (sensors_in d) sensor level) made ∙ known)
+request_known laws names block sensor level bus client (Some (Device request)) railway new beside made whole is known = device_known laws block sensor level (happening_by request) railway new beside made whole is known
 request_known laws names block sensor level bus client (Some (Place (Err error))) railway new beside made whole is known = (railway, beside, whole, is, ap (λ (d : List DeviceReport). level_after (sensors_in d) sensor level) made ∙ known)
 request_known laws names block sensor level bus client (Some (Send message)) railway new beside made whole is known =
     (railway, beside, whole, is, ap (λ (d : List DeviceReport). level_after (sensors_in d) sensor level) made ∙ asked_level laws (begins_interrogation message) level block sensor railway whole is known)
@@ -164,7 +173,7 @@ request_known laws names block sensor level bus client (Some (Place (Ok placemen
 
 -- after one that asks all sensors to report, whatever the client knew
 asked_known : SensorLaws → (names : List (List ℕ)) (block sensor : ℕ) (level : Bool) (bus : BusState) (client : ℕ) (request : Option Request) (railway : RailwayState) (new : ServerState)
-    → new.railway ≡ railway_placed names (outcome_of_request bus client request) (Some railway) → new.unreported ≡ reports_due names (outcome_of_request bus client request) (Some railway) []
+    → new.railway ≡ railway_requested names (outcome_of_request bus client request) (Some railway) → new.unreported ≡ reports_due names (outcome_of_request bus client request) (Some railway) []
     → IsTrue (is_railway railway) → IsSensorOf block sensor railway → asks_sensors (outcome_of_request bus client request) ≡ true → IsKnown block sensor level new
 asked_known laws names block sensor level bus client None railway new beside made whole is asks = cc
 asked_known laws names block sensor level bus client (Some (Invalid reason)) railway new beside made whole is asks = cc
@@ -178,7 +187,7 @@ asked_known laws names block sensor level bus client (Some (Send message)) railw
   whole,
   is,
   ap (λ (d : List DeviceReport). level_after (sensors_in d) sensor level) (made ∙ ap (λ (a : Bool). if a then of_sensors (full_report (Some railway)) else []) asks)
-      ∙ ap (λ (d : List SensorReport). level_after d sensor level) (sensors-of (full railway.network.blocks railway.trains)) ∙ laws.full railway block sensor level whole is.0 is.1,
+      ∙ ap (λ (d : List SensorReport). level_after d sensor level) (sensors-of (full railway.network.blocks (is_sensed railway))) ∙ laws.full railway block sensor level whole is.0 is.1,
 )
 
 -- The messages of an event are no reports, but for that of a sensor.
@@ -213,8 +222,8 @@ sent_tells programming sensor level client message reply h =
     ap₂ (λ (a b : List SensorReport). level_after (a ++ b) sensor level) (none_read (report_of message) h) (no_reply_by programming message reply)
 
 request_tells : (programming : Option BenchState) (names : List (List ℕ)) (beside : Option RailwayState) (bus : BusState) (sensor : ℕ) (level : Bool) (client : ℕ) (request : Option Request) (nodes : List Node) (railway : Option RailwayState)
-    → is_no_claim (Observed (programmed programming (answered names beside (outcome_of_request bus client request))) nodes railway) ≡ true
-    → TellsNothing sensor level (programmed programming (answered names beside (outcome_of_request bus client request)))
+    → is_no_claim (Observed (programmed programming beside (answered names beside (outcome_of_request bus client request))) nodes railway) ≡ true
+    → TellsNothing sensor level (programmed programming beside (answered names beside (outcome_of_request bus client request)))
 request_tells programming names beside bus sensor level client None nodes railway h = refl
 request_tells programming names beside bus sensor level client (Some (Invalid reason)) nodes railway h = refl
 request_tells programming names beside bus sensor level client (Some (Turns count)) nodes railway h = refl
@@ -224,7 +233,7 @@ request_tells programming names beside bus sensor level client (Some (Device req
 request_tells programming names beside bus sensor level client (Some (Send message)) nodes railway h = sent_tells programming sensor level client message (answer_to_message bus.station (for_station bus (Some (Send message)))) h
 
 -- time tells nothing
-time_tells : (programming : Option BenchState) (names : List (List ℕ)) (beside : Option RailwayState) (ends : Bool) (packet : Option (List ℕ)) (sensor : ℕ) (level : Bool) → TellsNothing sensor level (programmed programming (answered names beside (if ends then TurnBegan packet else Nothing)))
+time_tells : (programming : Option BenchState) (names : List (List ℕ)) (beside : Option RailwayState) (ends : Bool) (packet : Option (List ℕ)) (sensor : ℕ) (level : Bool) → TellsNothing sensor level (programmed programming beside (answered names beside (if ends then TurnBegan packet else Nothing)))
 time_tells programming names beside true packet sensor level = refl
 time_tells programming names beside false packet sensor level = refl
 
@@ -283,7 +292,7 @@ event_known laws block sensor level (Receives client byte) observed old new runs
     (untold sensor level observed (outcome_in old (Receives client byte)) new.nodes new.railway runs.saw
     (request_tells old.programming old.names old.railway old.bus sensor level client request new.nodes new.railway (subst (λ (o : Observation). is_no_claim o ≡ true) runs.saw quiet)))
     (request_known laws old.names block sensor level old.bus client request h.0 new
-    (runs.railway ∙ ap (λ (r : Option RailwayState). railway_placed old.names outcome r) h.1)
+    (runs.railway ∙ ap (λ (r : Option RailwayState). railway_requested old.names outcome r) h.1)
     (runs.unreported.1 ∙ ap (λ (r : Option RailwayState). reports_due old.names outcome r []) h.1)
     h.2 h.3 (sym (ap (λ (d : List DeviceReport). level_after (sensors_in d) sensor level) runs.unreported.0) ∙ h.4))
 event_known laws block sensor level (Reports message) observed old new runs quiet h =
@@ -315,7 +324,7 @@ pub becomes_known : SensorLaws → (block sensor client byte : ℕ) (level : Boo
 becomes_known laws block sensor client byte level railway observed old new beside whole is asks runs =
     let outcome : Outcome = outcome_of old.bus (Receives client byte) in
     asked_known laws old.names block sensor level old.bus client (request_at (client_of old.bus client) byte) railway new
-    (runs.railway ∙ ap (λ (r : Option RailwayState). railway_placed old.names outcome r) beside)
+    (runs.railway ∙ ap (λ (r : Option RailwayState). railway_requested old.names outcome r) beside)
     (runs.unreported.1 ∙ ap (λ (r : Option RailwayState). reports_due old.names outcome r []) beside)
     whole is asks
 

@@ -16,7 +16,7 @@ use Rattle.bus_server.specs.Programming.{programmed}
 use Rattle.bus_server.specs.Sensors.{reports_due}
 use Rattle.bus_server.proofs.Keeping.{alone}
 
-nothing_of : (programming : Option BenchState) (names : List (List ℕ)) (railway : Option RailwayState) (bus : BusState) (client : ℕ) (request : Option Request) → programmed programming (answered names railway (outcome_of_request bus client request)) ≡ Nothing
+nothing_of : (programming : Option BenchState) (names : List (List ℕ)) (railway : Option RailwayState) (bus : BusState) (client : ℕ) (request : Option Request) → programmed programming railway (answered names railway (outcome_of_request bus client request)) ≡ Nothing
     → outcome_of_request bus client request ≡ Nothing
 nothing_of programming names railway bus client None h = refl
 nothing_of programming names railway bus client (Some (Invalid reason)) h = cc

@@ -64,21 +64,21 @@ names-answered names railway (DeviceAnswered client answer) = refl
 
 -- and so does the reply of the programmer
 
-pub names-programmed : (programming : Option BenchState) (outcome : Outcome) → names_client (programmed programming outcome) ≡ names_client outcome
-names-programmed programming Nothing = refl
-names-programmed programming (Programmed packet change) = refl
-names-programmed programming (TurnBegan packet) = refl
-names-programmed programming (Disconnected client) = refl
-names-programmed programming (Connected client) = refl
-names-programmed programming (Rejected client reason) = refl
-names-programmed programming (Sent client message reply) = refl
-names-programmed programming (Reported message) = refl
-names-programmed programming (TurnsRequested client turns) = refl
-names-programmed programming (StatesRequested client things) = refl
-names-programmed programming (PlaceRequested client placement) = refl
-names-programmed programming (DeviceRequested client request) = refl
-names-programmed programming (Placed client answer) = refl
-names-programmed programming (DeviceAnswered client answer) = refl
+pub names-programmed : (programming : Option BenchState) (railway : Option RailwayState) (outcome : Outcome) → names_client (programmed programming railway outcome) ≡ names_client outcome
+names-programmed programming railway Nothing = refl
+names-programmed programming railway (Programmed packet change) = refl
+names-programmed programming railway (TurnBegan packet) = refl
+names-programmed programming railway (Disconnected client) = refl
+names-programmed programming railway (Connected client) = refl
+names-programmed programming railway (Rejected client reason) = refl
+names-programmed programming railway (Sent client message reply) = refl
+names-programmed programming railway (Reported message) = refl
+names-programmed programming railway (TurnsRequested client turns) = refl
+names-programmed programming railway (StatesRequested client things) = refl
+names-programmed programming railway (PlaceRequested client placement) = refl
+names-programmed programming railway (DeviceRequested client request) = refl
+names-programmed programming railway (Placed client answer) = refl
+names-programmed programming railway (DeviceAnswered client answer) = refl
 
 pub length-enqueued : (place : ℕ) (text : ℕ → List ℕ) (queues : SendQueues) → length (enqueued_from place text queues) ≡ length queues
 length-enqueued place text [] = refl

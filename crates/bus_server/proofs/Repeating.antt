@@ -48,7 +48,7 @@ pub record HasEffect (event : Event) (observed : Observation) (old new : Core) :
   pub programming : new.programming ≡ programming_after old.bus event old.programming
   pub unreported : IsDue event (reports_after old.names old.bus (running_in event old.nodes new.nodes) event old.railway old.programming) old.unreported new.unreported
   pub losses : IsDrawn event old.bus (length old.nodes) old.losses new.losses
-  pub saw : observed ≡ Observed (programmed old.programming (answered old.names old.railway (outcome_of old.bus event))) new.nodes new.railway
+  pub saw : observed ≡ Observed (programmed old.programming old.railway (answered old.names old.railway (outcome_of old.bus event))) new.nodes new.railway
 
 effect : (event : Event) (observed : Observation) (old new : ServerState) → RunsEvent event observed old new → HasEffect event observed (core old) (core new)
 effect event observed old new h = record { bus = h.bus; nodes = h.nodes; names = h.names; railway = h.railway; programming = h.programming; unreported = h.unreported; losses = h.losses; saw = h.saw }
@@ -212,7 +212,7 @@ effect_same event seen those old a b h k losses =
     let third : record b { losses = a.losses; unreported = a.unreported; programming = a.programming } ≡ record b { programming = a.programming } =
     ap₂ (λ (losses : Losses) (unreported : List DeviceReport). record b { losses = losses; unreported = unreported; programming = a.programming }) losses unreported in
     let fourth : record b { programming = a.programming } ≡ b = ap (λ (programming : Option BenchState). record b { programming = programming }) programming in (
-      h.saw ∙ ap₂ (λ (nodes : List Node) (railway : Option RailwayState). Observed (programmed old.programming (answered old.names old.railway (outcome_of old.bus event))) nodes railway) nodes railway ∙ sym k.saw,
+      h.saw ∙ ap₂ (λ (nodes : List Node) (railway : Option RailwayState). Observed (programmed old.programming old.railway (answered old.names old.railway (outcome_of old.bus event))) nodes railway) nodes railway ∙ sym k.saw,
       first ∙ second ∙ third ∙ fourth,
     )
 

@@ -12,11 +12,10 @@ use Rattle.ln_ops.specs.declared.sensor.SensorReport.{SensorReport}
 use Rattle.layout_core.specs.declared.node.Node.{Node}
 use Rattle.refresh_ring.specs.declared.pick.Power.{Power}
 use Rattle.railway.specs.declared.block.Block.{Block}
-use Rattle.railway.specs.declared.train.TrainState.{TrainState}
-use Rattle.railway.specs.Course.{Happening, after}
+use Rattle.railway.specs.Course.{Happening, after, reports_of}
 use Rattle.railway.specs.Course.Happening.{Elapses as TimeElapses}
-use Rattle.railway.specs.Railway.{RailwayState, elapsed}
-use Rattle.railway.specs.Reports.{change_of, changes, changes_from, full_from, is_occupied, level_of, onto}
+use Rattle.railway.specs.Railway.{RailwayState, elapsed, is_sensed}
+use Rattle.railway.specs.Reports.{change_of, changes, changes_from, full_from, level_of, onto}
 use Rattle.text.specs.Hex.{hex_words}
 use Rattle.loconet_tcp.specs.ClientLines.{device_text, line_end, place_text, receive_text, sent_error_text, sent_ok_text, turns_text}
 use Rattle.loconet_tcp.specs.Reading.{request_of_byte}
@@ -56,9 +55,10 @@ use Rattle.bus.specs.Below.{TurnsAreBounded}
 use Rattle.bus_server.specs.declared.device_report.DeviceReport.{DeviceReport}
 use Rattle.bus_server.specs.declared.device_report.DeviceReport.TheVariants.{Sensor, Packet, Ended}
 use Rattle.bus_server.specs.DeviceReports.{of_ends, of_result, of_sensors, event_of}
+use Rattle.bus_server.specs.Failures.{happened_to, happening_by}
 use Rattle.bus_server.specs.Placement.{answered, place_answer, places}
 use Rattle.bus_server.specs.Programming.{decoder_on, device_answer, ends_elapsed, programmed, reply_by, reply_or}
-use Rattle.bus_server.specs.Sensors.{reports_of_time, full_report, is_report, next_turn, railway_after, railway_elapsed, railway_placed, reports_after, reports_due, reports_elapsed, running_in, power_of}
+use Rattle.bus_server.specs.Sensors.{due_of, reports_of_time, full_report, is_report, next_turn, railway_after, railway_elapsed, railway_requested, reports_after, reports_due, reports_elapsed, running_in, power_of}
 
 -- The text of a request is at most 789 bytes.
 
@@ -131,13 +131,16 @@ device_most true (device.Mount (Err mount_error.UnknownDecoder)) = omega arith
 device_most true (device.Fail (Ok done)) = omega arith
 device_most true (device.Fail (Err fail_error.NoTrack)) = omega arith
 device_most true (device.Fail (Err fail_error.UnknownFailure)) = omega arith
+device_most true (device.Fail (Err fail_error.NoPlan)) = omega arith
+device_most true (device.Fail (Err fail_error.UnknownSensor)) = omega arith
+device_most true (device.Fail (Err fail_error.UnknownTurnout)) = omega arith
 
 three_most : (a b c : List ℕ) → length a ≤ 390 → length b ≤ 9 → length c ≤ 390 → length (a ++ b ++ c) ≤ 789
 three_most a b c h k l = omega (arith, h, k, l, length-append (a ++ b) c, length-append a b)
 
 -- the outcome of a request, with the answer where it puts a train on the track
 abbrev pub answered_request : ServerState → (client : ℕ) → Option Request → Outcome
-answered_request state client request = programmed state.programming (answered state.names state.railway (outcome_of_request state.bus client request))
+answered_request state client request = programmed state.programming state.railway (answered state.names state.railway (outcome_of_request state.bus client request))
 
 -- the lines of a message that a client requests to send are short
 abbrev pub AreShortLines : Type 0
@@ -156,7 +159,7 @@ requested_text state client i (Some (Invalid reason)) h = error_most (client == 
 requested_text state client i (Some (Turns count)) h = turns_most (client == i) (granted state.bus.options.is_stepped count)
 requested_text state client i (Some (States things)) h = omega arith
 requested_text state client i (Some (Place placement)) h = place_most (client == i) (place_answer state.names state.railway placement)
-requested_text state client i (Some (Device request)) h = device_most (client == i) (device_answer state.programming request)
+requested_text state client i (Some (Device request)) h = device_most (client == i) (device_answer state.programming state.railway request)
 requested_text state client i (Some (Send message)) h =
     three_most (receive_text message) (if client == i then sent_ok_text else []) (reply_text (reply_by state.programming message (reply_to state.bus (Some (Send message))))) (h message refl) (ok_most (client == i)) (reply_by_most state.programming message _)
 
@@ -215,17 +218,17 @@ onto_most : (report : Option SensorReport) (reports : List SensorReport) → len
 onto_most None reports = omega arith
 onto_most (Some report) reports = omega arith
 
-changes_from_most : (level : Bool) (was is : List TrainState) (i : ℕ) (blocks : List Block) → length (changes_from level was is i blocks) ≤ length blocks
+changes_from_most : (level : Bool) (was is : ℕ → Bool) (i : ℕ) (blocks : List Block) → length (changes_from level was is i blocks) ≤ length blocks
 changes_from_most level was is i [] = omega arith
 changes_from_most level was is i (block ∷ blocks) =
-    omega (arith, changes_from_most level was is (i + 1) blocks, onto_most (change_of level block.sensor (is_occupied was i) (is_occupied is i)) (changes_from level was is (i + 1) blocks))
+    omega (arith, changes_from_most level was is (i + 1) blocks, onto_most (change_of level block.sensor (was i) (is i)) (changes_from level was is (i + 1) blocks))
 
-full_from_most : (trains : List TrainState) (i : ℕ) (blocks : List Block) → length (full_from trains i blocks) ≤ length blocks
-full_from_most trains i [] = omega arith
-full_from_most trains i (block ∷ blocks) =
-    omega (arith, full_from_most trains (i + 1) blocks, onto_most (level_of block.sensor (is_occupied trains i)) (full_from trains (i + 1) blocks))
+full_from_most : (is : ℕ → Bool) (i : ℕ) (blocks : List Block) → length (full_from is i blocks) ≤ length blocks
+full_from_most is i [] = omega arith
+full_from_most is i (block ∷ blocks) =
+    omega (arith, full_from_most is (i + 1) blocks, onto_most (level_of block.sensor (is i)) (full_from is (i + 1) blocks))
 
-changes_most : (blocks : List Block) (was is : List TrainState) → length blocks ≤ 64 → length (changes blocks was is) ≤ 128
+changes_most : (blocks : List Block) (was is : ℕ → Bool) → length blocks ≤ 64 → length (changes blocks was is) ≤ 128
 changes_most blocks was is few =
     omega (arith, few, length-append (changes_from true was is 0 blocks) (changes_from false was is 0 blocks), changes_from_most true was is 0 blocks, changes_from_most false was is 0 blocks)
 
@@ -235,11 +238,11 @@ HasFewBlocks railway = IfSome railway (λ railway. length railway.network.blocks
 
 elapsed_most : (railway : Option RailwayState) (micros : ℕ) (power : Power) (nodes : List Node) → HasFewBlocks railway → length (reports_elapsed railway micros power nodes) ≤ 128
 elapsed_most None micros power nodes few = omega arith
-elapsed_most (Some railway) micros power nodes few = changes_most railway.network.blocks railway.trains (elapsed railway micros power nodes).trains few
+elapsed_most (Some railway) micros power nodes few = changes_most railway.network.blocks (is_sensed railway) (is_sensed (elapsed railway micros power nodes)) few
 
 full_most : (railway : Option RailwayState) → HasFewBlocks railway → length (full_report railway) ≤ 128
 full_most None few = omega arith
-full_most (Some railway) few = omega (arith, few, full_from_most railway.trains 0 railway.network.blocks)
+full_most (Some railway) few = omega (arith, few, full_from_most (is_sensed railway) 0 railway.network.blocks)
 
 sensors_most : (reports : List SensorReport) → length reports ≤ 128 → owed (of_sensors reports) ≤ 2790
 sensors_most reports few = omega (arith, few, owed_sensors reports)
@@ -248,13 +251,21 @@ asked_most : (asks : Bool) (railway : Option RailwayState) → HasFewBlocks rail
 asked_most true railway few = sensors_most (full_report railway) (full_most railway few)
 asked_most false railway few = omega arith
 
+happened_most : (happening : Happening) (railway : RailwayState) → length railway.network.blocks ≤ 64 → owed (of_sensors (reports_of railway happening)) ≤ 2790
+happened_most happening railway few =
+    let new : RailwayState = after railway happening in
+    sensors_most (changes railway.network.blocks (is_sensed railway) (is_sensed new)) (changes_most railway.network.blocks (is_sensed railway) (is_sensed new) few)
+
 placed_most : (names : List (List ℕ)) (client : ℕ) (placement : Result Placement PlaceError) (railway : Option RailwayState) → HasFewBlocks railway → owed (reports_due names (PlaceRequested client placement) railway []) ≤ 2790
 placed_most names client (Err error) None few = omega arith
 placed_most names client (Err error) (Some railway) few = omega arith
 placed_most names client (Ok placement) None few = omega arith
-placed_most names client (Ok placement) (Some railway) few =
-    let trains : List TrainState = (after railway (places names railway placement)).trains in
-    sensors_most (changes railway.network.blocks railway.trains trains) (changes_most railway.network.blocks railway.trains trains few)
+placed_most names client (Ok placement) (Some railway) few = happened_most (places names railway placement) railway few
+
+device_due_most : (happening : Option Happening) (railway : Option RailwayState) → HasFewBlocks railway → owed (due_of happening railway []) ≤ 2790
+device_due_most None railway few = omega arith
+device_due_most (Some happening) None few = omega arith
+device_due_most (Some happening) (Some railway) few = happened_most happening railway few
 
 requested_most : (names : List (List ℕ)) (bus : BusState) (client : ℕ) (request : Option Request) (railway : Option RailwayState) → HasFewBlocks railway → owed (reports_due names (outcome_of_request bus client request) railway []) ≤ 2790
 requested_most names bus client None railway few = omega arith
@@ -263,7 +274,7 @@ requested_most names bus client (Some (Send message)) railway few = asked_most (
 requested_most names bus client (Some (Turns count)) railway few = omega arith
 requested_most names bus client (Some (States things)) railway few = omega arith
 requested_most names bus client (Some (Place placement)) railway few = placed_most names client placement railway few
-requested_most names bus client (Some (Device request)) railway few = omega arith
+requested_most names bus client (Some (Device request)) railway few = device_due_most (happening_by request) railway few
 
 -- what a railway promises, that its blocks stay whatever happens; a station, how long its turns are; a
 -- programming track, that few packets end in a time; and the text of clients, how long a line is
@@ -306,13 +317,18 @@ few_elapsed : Limits → (railway : Option RailwayState) (micros : ℕ) (power :
 few_elapsed same None micros power nodes few = few
 few_elapsed same (Some railway) micros power nodes few = few_after same railway (TimeElapses micros power nodes) few
 
-few_placed : Limits → (names : List (List ℕ)) (bus : BusState) (client : ℕ) (request : Option Request) (railway : Option RailwayState) → HasFewBlocks railway → HasFewBlocks (railway_placed names (outcome_of_request bus client request) railway)
+few_happened : Limits → (happening : Option Happening) (railway : Option RailwayState) → HasFewBlocks railway → HasFewBlocks (happened_to happening railway)
+few_happened same None railway few = few
+few_happened same (Some happening) None few = few
+few_happened same (Some happening) (Some railway) few = few_after same railway happening few
+
+few_placed : Limits → (names : List (List ℕ)) (bus : BusState) (client : ℕ) (request : Option Request) (railway : Option RailwayState) → HasFewBlocks railway → HasFewBlocks (railway_requested names (outcome_of_request bus client request) railway)
 few_placed same names bus client None railway few = few
 few_placed same names bus client (Some (Invalid reason)) railway few = few
 few_placed same names bus client (Some (Send message)) railway few = few
 few_placed same names bus client (Some (Turns count)) railway few = few
 few_placed same names bus client (Some (States things)) railway few = few
-few_placed same names bus client (Some (Device request)) railway few = few
+few_placed same names bus client (Some (Device request)) railway few = few_happened same (happening_by request) railway few
 few_placed same names bus client (Some (Place (Err error))) None few = few
 few_placed same names bus client (Some (Place (Err error))) (Some railway) few = few
 few_placed same names bus client (Some (Place (Ok placement))) None few = few

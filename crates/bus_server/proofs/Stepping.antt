@@ -20,15 +20,15 @@ use Rattle.bus_server.specs.declared.losses.Losses.{Losses}
 use Rattle.bus_server.specs.ServerState.{IsDrawn, RunsEvent, ServerState, outcome_in}
 use Rattle.bus_server.specs.SendQueues.{queues_after}
 use Rattle.bus_server.specs.Placement.{answered}
-use Rattle.bus_server.specs.Sensors.{IsDue, IsWithinTurn, reports_of_time, is_report, next_turn, power_of, programming_after, railway_after, railway_elapsed, railway_placed, reports_after, reports_due, running_in}
+use Rattle.bus_server.specs.Sensors.{IsDue, IsWithinTurn, reports_of_time, is_report, next_turn, power_of, programming_after, railway_after, railway_elapsed, railway_requested, reports_after, reports_due, running_in}
 use Rattle.bus_server.specs.Hub.{RunsOnBus, with_trains_run}
 
 -- the bus runs an event once what decoders miss is drawn and trains have run
 runs : (event : Event) (observed : Observation) (losses : Losses) (railway : Option RailwayState) (programming : Option BenchState) (unreported : List DeviceReport) (old new : ServerState)
     → RunsOnBus event observed (record old { losses = losses; railway = railway; programming = programming; unreported = unreported }) new
     → IsWithinTurn event old.bus → IsDrawn event old.bus (length old.nodes) old.losses losses
-    → programmed programming (answered old.names railway (outcome_of old.bus event)) ≡ outcome_in old event
-    → railway_placed old.names (outcome_of old.bus event) railway ≡ railway_after old.names old.bus (running_in event old.nodes new.nodes) event old.railway
+    → programmed programming railway (answered old.names railway (outcome_of old.bus event)) ≡ outcome_in old event
+    → railway_requested old.names (outcome_of old.bus event) railway ≡ railway_after old.names old.bus (running_in event old.nodes new.nodes) event old.railway
     → programming_requested (outcome_of old.bus event) programming ≡ programming_after old.bus event old.programming
     → IsDue event (reports_after old.names old.bus (running_in event old.nodes new.nodes) event old.railway old.programming) old.unreported new.unreported
     → RunsEvent event observed old new
@@ -78,7 +78,7 @@ time_due : (names : List (List ℕ)) (ends : Bool) (packet : Option (List ℕ)) 
 time_due names true packet railway unreported = refl
 time_due names false packet railway unreported = refl
 
-time_placed : (names : List (List ℕ)) (ends : Bool) (packet : Option (List ℕ)) (railway : Option RailwayState) → railway_placed names (time_outcome ends packet) railway ≡ railway
+time_placed : (names : List (List ℕ)) (ends : Bool) (packet : Option (List ℕ)) (railway : Option RailwayState) → railway_requested names (time_outcome ends packet) railway ≡ railway
 time_placed names true packet railway = refl
 time_placed names false packet railway = refl
 
@@ -87,7 +87,7 @@ time_requested true packet programming = refl
 time_requested false packet programming = refl
 
 time_told : (names : List (List ℕ)) (ends : Bool) (packet : Option (List ℕ)) (old new : Option RailwayState) (before after : Option BenchState)
-    → programmed after (answered names new (time_outcome ends packet)) ≡ programmed before (answered names old (time_outcome ends packet))
+    → programmed after new (answered names new (time_outcome ends packet)) ≡ programmed before old (answered names old (time_outcome ends packet))
 time_told names true packet old new before after = refl
 time_told names false packet old new before after = refl
 

@@ -14,7 +14,7 @@ use Rattle.bus_server.specs.ServerState.{LoggedEvent, RunsEvents, ServerState, d
 use Rattle.bus_server.specs.Programming.{programming_elapsed, programming_requested}
 use Rattle.bus_server.specs.SendQueues.{queues_after}
 use Rattle.bus_server.specs.TrackDue.{due_after}
-use Rattle.bus_server.specs.Sensors.{reports_of_time, is_report, power_of, railway_elapsed, railway_placed, reports_due}
+use Rattle.bus_server.specs.Sensors.{reports_of_time, is_report, power_of, railway_elapsed, railway_requested, reports_due}
 
 -- A time has passed: trains have run as the decoders do, with the power of the track, and packets of
 -- the programming track were sent. What is reported of it is due.
@@ -31,7 +31,7 @@ pub record RunsOnBus (event : Event) (observed : Observation) (old new : ServerS
   pub legal : is_event event ≡ true
   pub bus : new.bus ≡ after_event old.bus event
   pub nodes : HaveHeard old.bus.station (layout_event old.bus event) old.nodes new.nodes
-  pub railway : new.railway ≡ railway_placed old.names (outcome_of old.bus event) old.railway
+  pub railway : new.railway ≡ railway_requested old.names (outcome_of old.bus event) old.railway
   pub programming : new.programming ≡ programming_requested (outcome_of old.bus event) old.programming
   pub unreported : new.unreported
       ≡ reports_due old.names (outcome_of old.bus event) old.railway old.unreported

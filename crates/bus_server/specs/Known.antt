@@ -5,8 +5,8 @@ use Rattle.std.specs.Option.{option_to_list}
 use Rattle.ln_ops.specs.Sensor.{report_of}
 use Rattle.ln_ops.specs.declared.sensor.SensorReport.{SensorReport}
 use Rattle.railway.specs.Blocks.{default_block}
-use Rattle.railway.specs.Railway.{RailwayState, is_railway}
-use Rattle.railway.specs.Reports.{is_occupied, level_after}
+use Rattle.railway.specs.Railway.{RailwayState, is_railway, is_sensed}
+use Rattle.railway.specs.Reports.{level_after}
 use Rattle.bus.specs.Outcome.{messages_in}
 use Rattle.bus.specs.declared.outcome.Outcome.TheVariants.{Sent}
 use Rattle.bus.specs.declared.event.Event.TheVariants.{Receives}
@@ -49,12 +49,12 @@ IsSensorOf block sensor railway =
     (block < length railway.network.blocks)
     × ((slice_index_or railway.network.blocks block default_block).sensor ≡ Some sensor)
 
--- With what is still due, the level that a client knows of a sensor is that of its block.
+-- With what is still due, the level that a client knows of a sensor is what it finds.
 abbrev pub IsKnown : (block sensor : ℕ) → (level : Bool) → ServerState → Type 0
 IsKnown block sensor level state =
     (railway : RailwayState) × (state.railway ≡ Some railway) × IsTrue (is_railway railway)
     × IsSensorOf block sensor railway
-    × (level_after (sensors_in state.unreported) sensor level ≡ is_occupied railway.trains block)
+    × (level_after (sensors_in state.unreported) sensor level ≡ is_sensed railway block)
 
 -- It stays so in every run in which no client sends a report, by the messages that clients receive.
 abbrev pub StaysKnown : Type 0

@@ -1,6 +1,7 @@
 pub mod AfterRound
 pub mod Answers
 pub mod DeviceReports
+pub mod Failures
 pub mod Fronts
 pub mod Generator
 pub mod Hub

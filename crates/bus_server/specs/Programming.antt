@@ -1,5 +1,5 @@
 -- The programming track beside a bus, and the decoders that clients put on it.
-use Rattle.std.specs.Prelude.{ℕ, if◌then◌else◌, is_some, List, [], Option, Some, None, Result, Ok, Err, option_map}
+use Rattle.std.specs.Prelude.{ℕ, true, false, if◌then◌else◌, List, [], Option, Some, None, Result, Ok, Err, option_map}
 use Rattle.arrayvec.specs.ArrayString.{ArrayString}
 use Rattle.arrayvec.specs.ArrayVec.{ArrayVec}
 use Rattle.cv_memory.specs.declared.cv_change.CvChange.{CvChange}
@@ -10,6 +10,7 @@ use Rattle.loconet_tcp.specs.declared.request.DeviceRequest.TheVariants.{Mount, 
 use Rattle.loconet_tcp.specs.declared.request.FailError.{FailError}
 use Rattle.loconet_tcp.specs.declared.request.FailError.TheVariants as fail_error
 use Rattle.loconet_tcp.specs.declared.request.Failure.{Failure}
+use Rattle.loconet_tcp.specs.declared.request.Failure.TheVariants.{Programming, Sensor, Turnout}
 use Rattle.loconet_tcp.specs.declared.request.MountError.{MountError}
 use Rattle.loconet_tcp.specs.declared.request.MountError.TheVariants as mount_error
 use Rattle.programmer.specs.declared.reply.TaskReply.{TaskReply}
@@ -20,8 +21,10 @@ use Rattle.programming_track.specs.declared.packet_end.NamedChange.{NamedChange}
 use Rattle.programming_track.specs.declared.packet_end.PacketEnd.{PacketEnd}
 use Rattle.programming_track.specs.Bench.{BenchState, bench_elapsed, bench_requested, dismounted, has_decoder, mounted_as, name_on, with_failing}
 use Rattle.programming_track.specs.Time.{ends_within}
+use Rattle.railway.specs.Railway.{RailwayState}
 use Rattle.bus.specs.declared.outcome.Outcome.{Outcome}
 use Rattle.bus.specs.declared.outcome.Outcome.TheVariants.{DeviceAnswered, DeviceRequested, Sent}
+use Rattle.bus_server.specs.Failures.{sensor_answer, turnout_answer}
 
 -- the programming track, if there is one, after so many microseconds
 abbrev pub programming_elapsed : Option BenchState → (micros : ℕ) → Option BenchState
@@ -49,10 +52,13 @@ mounted (Err error) bench = bench
 mounted (Ok None) bench = dismounted bench
 mounted (Ok (Some name)) bench = mounted_as name.items bench
 
--- Acknowledgments fail from now on, or nothing does, unless the line does not say what.
+-- Acknowledgments fail from now on, or nothing does, if the line says so.
 abbrev pub failing : Result (Option Failure) FailError → BenchState → BenchState
 failing (Err error) bench = bench
-failing (Ok failure) bench = with_failing (is_some failure) bench
+failing (Ok None) bench = with_failing false bench
+failing (Ok (Some Programming)) bench = with_failing true bench
+failing (Ok (Some (Sensor sensor occupied))) bench = bench
+failing (Ok (Some (Turnout switch))) bench = bench
 
 abbrev pub arranged : DeviceRequest → BenchState → BenchState
 arranged (Mount decoder) bench = mounted decoder bench
@@ -67,15 +73,22 @@ mount_answer (Some bench) (Ok None) = Ok tt
 mount_answer (Some bench) (Ok (Some name)) =
     if has_decoder bench name.items then Ok tt else Err mount_error.UnknownDecoder
 
-abbrev pub fail_answer : Option BenchState → Result (Option Failure) FailError
-    → Result (Unit {0}) FailError
-fail_answer None failure = Err fail_error.NoTrack
-fail_answer (Some bench) (Err error) = Err error
-fail_answer (Some bench) (Ok failure) = Ok tt
+abbrev pub programming_answer : Option BenchState → Result (Unit {0}) FailError
+programming_answer None = Err fail_error.NoTrack
+programming_answer (Some bench) = Ok tt
 
-abbrev pub device_answer : Option BenchState → DeviceRequest → DeviceAnswer
-device_answer programming (Mount decoder) = answer.Mount (mount_answer programming decoder)
-device_answer programming (Fail failure) = answer.Fail (fail_answer programming failure)
+abbrev pub fail_answer : Option BenchState → Option RailwayState
+    → Result (Option Failure) FailError → Result (Unit {0}) FailError
+fail_answer programming railway (Err error) = Err error
+fail_answer programming railway (Ok None) = Ok tt
+fail_answer programming railway (Ok (Some Programming)) = programming_answer programming
+fail_answer programming railway (Ok (Some (Sensor sensor occupied))) = sensor_answer railway sensor
+fail_answer programming railway (Ok (Some (Turnout switch))) = turnout_answer railway switch
+
+abbrev pub device_answer : Option BenchState → Option RailwayState → DeviceRequest → DeviceAnswer
+device_answer programming railway (Mount decoder) = answer.Mount (mount_answer programming decoder)
+device_answer programming railway (Fail failure) =
+    answer.Fail (fail_answer programming railway failure)
 
 -- The programming track after an outcome: a message may be for slot 124, and a client may arrange the
 -- track.
@@ -97,10 +110,10 @@ reply_by None message station = station
 reply_by (Some bench) message station =
     reply_or (reply_of bench.track.programmer (request_in message)) station
 
--- an outcome with that reply, or with the answer where a client arranges the track
-abbrev pub programmed : Option BenchState → Outcome → Outcome
-programmed programming (Sent client message reply) =
+-- an outcome with that reply, or with the answer where a client arranges the devices
+abbrev pub programmed : Option BenchState → Option RailwayState → Outcome → Outcome
+programmed programming railway (Sent client message reply) =
     Sent client message (reply_by programming message reply)
-programmed programming (DeviceRequested client request) =
-    DeviceAnswered client (device_answer programming request)
-programmed programming other = other
+programmed programming railway (DeviceRequested client request) =
+    DeviceAnswered client (device_answer programming railway request)
+programmed programming railway other = other

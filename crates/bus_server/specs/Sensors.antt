@@ -6,15 +6,16 @@ use Rattle.ln_ops.specs.Sensor.{begins_interrogation}
 use Rattle.ln_ops.specs.declared.sensor.SensorReport.{SensorReport}
 use Rattle.programming_track.specs.Bench.{BenchState}
 use Rattle.bus.specs.declared.outcome.Outcome.{Outcome}
-use Rattle.bus.specs.declared.outcome.Outcome.TheVariants.{PlaceRequested, Sent}
-use Rattle.railway.specs.Course.{after, reports_of}
-use Rattle.railway.specs.Railway.{RailwayState, elapsed, reports_in}
+use Rattle.bus.specs.declared.outcome.Outcome.TheVariants.{DeviceRequested, PlaceRequested, Sent}
+use Rattle.railway.specs.Course.{Happening, after, reports_of}
+use Rattle.railway.specs.Railway.{RailwayState, elapsed, is_sensed, reports_in}
 use Rattle.railway.specs.Reports.{full}
 use Rattle.bus.specs.declared.event.Event.{Event}
 use Rattle.bus.specs.declared.event.Event.TheVariants.{Connects, Receives, Disconnects, Reports, Programs, Elapses, Turn}
 use Rattle.bus.specs.Bus.{BusState, after_event, outcome_of}
 use Rattle.bus_server.specs.declared.device_report.DeviceReport.{DeviceReport}
 use Rattle.bus_server.specs.DeviceReports.{IsNext, of_ends, of_sensors}
+use Rattle.bus_server.specs.Failures.{happened_to, happening_by}
 use Rattle.bus_server.specs.Placement.{places}
 use Rattle.bus_server.specs.Programming.{decoder_on, ends_elapsed, programming_elapsed, programming_requested}
 
@@ -37,28 +38,39 @@ reports_elapsed (Some railway) micros power nodes = reports_in railway micros po
 -- a report of each sensor
 abbrev pub full_report : Option RailwayState → List SensorReport
 full_report None = []
-full_report (Some railway) = full railway.network.blocks railway.trains
+full_report (Some railway) = full railway.network.blocks (is_sensed railway)
 
 -- a message asks all sensors to report
 abbrev pub asks_sensors : Outcome → Bool
 asks_sensors (Sent client message reply) = begins_interrogation message
 asks_sensors other = false
 
--- the railway after an outcome: a client may put a train on the track
-abbrev pub railway_placed : (names : List (List ℕ)) → Outcome → Option RailwayState
+-- the railway after an outcome: a client may put a train on the track, or let a sensor or a turnout
+-- fail
+abbrev pub railway_requested : (names : List (List ℕ)) → Outcome → Option RailwayState
     → Option RailwayState
-railway_placed names (PlaceRequested client (Ok placement)) (Some railway) =
+railway_requested names (PlaceRequested client (Ok placement)) (Some railway) =
     Some (after railway (places names railway placement))
-railway_placed names other railway = railway
+railway_requested names (DeviceRequested client request) railway =
+    happened_to (happening_by request) railway
+railway_requested names other railway = railway
 
--- What is due then: all, if a message asks for that; each change, if a train was put there; else
--- what was due before.
+-- what is due after what happens to a railway: its reports; else what was due before
+abbrev pub due_of : Option Happening → Option RailwayState → List DeviceReport → List DeviceReport
+due_of None railway unreported = unreported
+due_of (Some happening) None unreported = unreported
+due_of (Some happening) (Some railway) unreported = of_sensors (reports_of railway happening)
+
+-- What is due then: all, if a message asks for that; each change, if a train was put there or a sensor
+-- fails; else what was due before.
 abbrev pub reports_due : (names : List (List ℕ)) → Outcome → Option RailwayState
     → List DeviceReport → List DeviceReport
 reports_due names (Sent client message reply) railway unreported =
     if begins_interrogation message then of_sensors (full_report railway) else unreported
 reports_due names (PlaceRequested client (Ok placement)) (Some railway) unreported =
     of_sensors (reports_of railway (places names railway placement))
+reports_due names (DeviceRequested client request) railway unreported =
+    due_of (happening_by request) railway unreported
 reports_due names other railway unreported = unreported
 
 -- The decoders that trains run by in the time of an event. A time ends with the turn under way or
@@ -80,7 +92,7 @@ railway_after names bus nodes (Elapses micros missed) railway =
 railway_after names bus nodes (Turn missed) railway =
     railway_elapsed railway (next_turn bus) (power_of bus) nodes
 railway_after names bus nodes (Receives client byte) railway =
-    railway_placed names (outcome_of bus (Receives client byte)) railway
+    railway_requested names (outcome_of bus (Receives client byte)) railway
 railway_after names bus nodes other railway = railway
 
 -- The programming track after an event: its packets take time, with or without power of the track.

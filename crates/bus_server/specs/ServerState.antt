@@ -90,7 +90,7 @@ IsDrawn other bus nodes old new = new ≡ old
 -- the outcome of an event, with the answer where a client puts a train on the track or arranges the
 -- programming track, and the reply of the programmer
 abbrev pub outcome_in : ServerState → Event → Outcome
-outcome_in state event = programmed state.programming (answered state.names state.railway (outcome_of state.bus event))
+outcome_in state event = programmed state.programming state.railway (answered state.names state.railway (outcome_of state.bus event))
 
 -- One event of the bus: the decoders heard what it is to the layout, trains ran in its time or were
 -- placed, the text of its outcome was enqueued, and the outcome was observed with the decoders and the railway as they are then.

@@ -1,27 +1,12 @@
 //! Arranging the programming track for clients.
-ghost use Rattle.std.specs.Prelude.{◌≡◌, option_map};
-ghost use Rattle.bus_server.specs.Programming.{arranged, device_answer, fail_answer, failing, mount_answer, mounted};
+ghost use Rattle.std.specs.Prelude.{◌≡◌, Ok, option_map};
+ghost use Rattle.bus_server.specs.Programming.{failing, mount_answer, mounted};
 
-use loconet_tcp::{DeviceAnswer, DeviceRequest, FailError, Failure, MountError, Word};
+use loconet_tcp::{Failure, MountError, Word};
 use programming_track::ProgrammingBench;
 
-/// Arranges the programming track, if there is one, as a client asks for. Returns the answer.
-pub(crate) fn arrange(
-    programming: &mut Option<ProgrammingBench>,
-    request: &DeviceRequest,
-) -> DeviceAnswer
-    ensures programming { programming.new
-        ≡ option_map (arranged request.now) programming.old }
-    ensures answer { result ≡ device_answer programming.old request.now }
-{
-    match request {
-        DeviceRequest::Mount(decoder) => DeviceAnswer::Mount(mount(programming, decoder)),
-        DeviceRequest::Fail(failure) => DeviceAnswer::Fail(fail(programming, failure)),
-    }
-}
-
 /// Puts a decoder on the track, or none. Returns the answer.
-fn mount(
+pub(crate) fn mount(
     programming: &mut Option<ProgrammingBench>,
     decoder: &Result<Option<Word>, MountError>,
 ) -> Result<(), MountError>
@@ -47,22 +32,19 @@ fn mount(
     }
 }
 
-/// Lets acknowledgments fail, or nothing. Returns the answer.
-fn fail(
+/// Lets acknowledgments fail, or nothing, if this is asked for.
+pub(crate) fn fail_acknowledgments(
     programming: &mut Option<ProgrammingBench>,
-    failure: &Result<Option<Failure>, FailError>,
-) -> Result<(), FailError>
-    ensures programming { programming.new ≡ option_map (failing failure.now) programming.old }
-    ensures answer { result ≡ fail_answer programming.old failure.now }
+    failure: Option<Failure>,
+)
+    ensures programming { programming.new ≡ option_map (failing (Ok failure)) programming.old }
 {
     let Some(bench) = programming else {
-        return Err(FailError::NoTrack);
+        return;
     };
     match failure {
-        Err(error) => Err(*error),
-        Ok(failure) => {
-            bench.set_failing(failure.is_some());
-            Ok(())
-        }
+        None => bench.set_failing(false),
+        Some(Failure::Programming) => bench.set_failing(true),
+        Some(Failure::Sensor { .. } | Failure::Turnout { .. }) => {}
     }
 }

@@ -13,6 +13,7 @@ mod answers;
 mod arranging;
 mod device_report;
 mod device_reports;
+mod failing;
 mod hub;
 pub mod laws;
 mod losses;

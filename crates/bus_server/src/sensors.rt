@@ -7,11 +7,12 @@ ghost use Rattle.programming_track.specs.Bench.{bench_requested};
 ghost use Rattle.railway.specs.Reports.{is_report};
 ghost use Rattle.bus.specs.declared.outcome.Outcome.TheVariants.{PlaceRequested};
 ghost use Rattle.bus_server.specs.NamedNodes.{names_of};
+ghost use Rattle.bus_server.specs.Failures.{happened_to, happening_by};
 ghost use Rattle.bus_server.specs.Placement.{answered, place_answer};
 ghost use Rattle.bus_server.specs.Programming.{arranged, decoder_on, device_answer, ends_elapsed, programmed, programming_elapsed, programming_requested, reply_by};
-ghost use Rattle.bus_server.specs.Sensors.{reports_of_time, full_report, railway_elapsed, railway_placed, reports_due, reports_elapsed};
+ghost use Rattle.bus_server.specs.Sensors.{due_of, reports_of_time, full_report, railway_elapsed, railway_requested, reports_due, reports_elapsed};
 
-use crate::arranging::arrange;
+use crate::arranging::mount;
 use crate::device_reports::DeviceReports;
 use crate::named_node::NamedNodes;
 use crate::placement::place;
@@ -68,19 +69,19 @@ impl Sensors {
     }
 
     /// Does what an outcome of the bus asks of the devices: a report of each sensor, to put a train on
-    /// the track, to arrange the programming track, or something of the programmer. What sensors report
-    /// of it is due. Returns the outcome, with the answer to a client that asks to put a train or to
+    /// the track, to arrange the devices, or something of the programmer. What sensors report of it is
+    /// due. Returns the outcome, with the answer to a client that asks to put a train or to
     /// arrange, and the programmer's reply.
     pub(crate) fn answer(&mut self, outcome: Outcome, nodes: &NamedNodes) -> Outcome
         ensures railway { self.new.railway
-            ≡ railway_placed (names_of nodes.now.items) outcome self.old.railway }
+            ≡ railway_requested (names_of nodes.now.items) outcome self.old.railway }
         ensures programming { self.new.programming
             ≡ programming_requested outcome self.old.programming }
         ensures unreported { queue_of self.new.unreported
             ≡ reports_due (names_of nodes.now.items) outcome self.old.railway
             (queue_of self.old.unreported) }
         ensures answered { result
-            ≡ programmed self.old.programming
+            ≡ programmed self.old.programming self.old.railway
             (answered (names_of nodes.now.items) self.old.railway outcome) }
     {
         match outcome {
@@ -109,15 +110,23 @@ impl Sensors {
         }
     }
 
-    /// Arranges the programming track as a client asks for. Returns the answer.
+    /// Arranges the devices as a client asks for. Returns the answer.
     fn arrange(&mut self, request: &DeviceRequest) -> DeviceAnswer
-        ensures railway { self.new.railway ≡ self.old.railway }
+        ensures railway { self.new.railway
+            ≡ happened_to (happening_by request.now) self.old.railway }
         ensures programming { self.new.programming
             ≡ option_map (arranged request.now) self.old.programming }
-        ensures unreported { queue_of self.new.unreported ≡ queue_of self.old.unreported }
-        ensures answer { result ≡ device_answer self.old.programming request.now }
+        ensures unreported { queue_of self.new.unreported
+            ≡ due_of (happening_by request.now) self.old.railway (queue_of self.old.unreported) }
+        ensures answer { result
+            ≡ device_answer self.old.programming self.old.railway request.now }
     {
-        arrange(&mut self.programming, request)
+        match request {
+            DeviceRequest::Mount(decoder) => {
+                DeviceAnswer::Mount(mount(&mut self.programming, decoder))
+            }
+            DeviceRequest::Fail(failure) => DeviceAnswer::Fail(self.fail_as_asked(failure)),
+        }
     }
 
     /// Makes a report of each sensor due, if a message asks for it.
@@ -158,7 +167,7 @@ impl Sensors {
         nodes: &NamedNodes,
     ) -> Result<(), PlaceError>
         ensures railway { (client : ℕ) → self.new.railway
-            ≡ railway_placed (names_of nodes.now.items) (PlaceRequested client placement.now)
+            ≡ railway_requested (names_of nodes.now.items) (PlaceRequested client placement.now)
             self.old.railway }
         ensures programming { self.new.programming ≡ self.old.programming }
         ensures unreported { (client : ℕ) → queue_of self.new.unreported

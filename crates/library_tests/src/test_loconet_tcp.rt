@@ -118,13 +118,38 @@ const MOUNTS: [(&[u8], &[u8]); 4] = [
 const NO_MOUNTS: [&[u8]; 3] = [b"MOUNT\n", b"MOUNT \n", b"MOUNT shunter express\n"];
 
 // Lines that let something fail.
-const FAILURES: [(&[u8], Result<Option<Failure>, FailError>); 6] = [
+const FAILURES: [(&[u8], Result<Option<Failure>, FailError>); 16] = [
     (b"FAIL programming\r\n", Ok(Some(Failure::Programming))),
     (b"FAIL  none \n", Ok(None)),
     (b"FAIL\n", Err(FailError::UnknownFailure)),
     (b"FAIL sensor\n", Err(FailError::UnknownFailure)),
     (b"FAIL None\n", Err(FailError::UnknownFailure)),
     (b"FAIL programming none\n", Err(FailError::UnknownFailure)),
+    (
+        b"FAIL sensor 3 on\n",
+        Ok(Some(Failure::Sensor {
+            sensor: 3,
+            occupied: true,
+        })),
+    ),
+    (
+        b"FAIL  sensor 65535 off \r\n",
+        Ok(Some(Failure::Sensor {
+            sensor: 65535,
+            occupied: false,
+        })),
+    ),
+    (b"FAIL sensor 65536 on\n", Err(FailError::UnknownSensor)),
+    (b"FAIL sensor x off\n", Err(FailError::UnknownSensor)),
+    (b"FAIL sensor x On\n", Err(FailError::UnknownFailure)),
+    (b"FAIL sensor 3 on off\n", Err(FailError::UnknownFailure)),
+    (b"FAIL turnout 3 on\n", Err(FailError::UnknownFailure)),
+    (
+        b"FAIL turnout 2040\n",
+        Ok(Some(Failure::Turnout { switch: 2040 })),
+    ),
+    (b"FAIL turnout 65536\n", Err(FailError::UnknownTurnout)),
+    (b"FAIL Turnout 2\n", Err(FailError::UnknownFailure)),
 ];
 
 // Texts without a request. The line of the last has not ended.
@@ -360,14 +385,20 @@ fn writes_exact_lines_of_the_programming_track(rt: HostRuntime) {
         DeviceAnswer::Mount(Err(MountError::UnknownDecoder)),
     );
     push_device(&mut text, DeviceAnswer::Fail(Ok(())));
-    push_device(&mut text, DeviceAnswer::Fail(Err(FailError::NoTrack)));
     push_device(
         &mut text,
         DeviceAnswer::Fail(Err(FailError::UnknownFailure)),
     );
+    push_device(&mut text, DeviceAnswer::Fail(Err(FailError::NoTrack)));
+    push_device(&mut text, DeviceAnswer::Fail(Err(FailError::NoPlan)));
+    push_device(&mut text, DeviceAnswer::Fail(Err(FailError::UnknownSensor)));
+    push_device(
+        &mut text,
+        DeviceAnswer::Fail(Err(FailError::UnknownTurnout)),
+    );
     push_states_ok(&mut text, Things::Variables);
     let wanted =
-        b"MOUNT OK\r\nMOUNT ERROR no programming track\r\nMOUNT ERROR no name of a decoder\r\nMOUNT ERROR no such decoder\r\nFAIL OK\r\nFAIL ERROR no programming track\r\nFAIL ERROR neither programming nor none\r\nCVS OK\r\n";
+        b"MOUNT OK\r\nMOUNT ERROR no programming track\r\nMOUNT ERROR no name of a decoder\r\nMOUNT ERROR no such decoder\r\nFAIL OK\r\nFAIL ERROR no such failure\r\nFAIL ERROR no programming track\r\nFAIL ERROR no plan\r\nFAIL ERROR no such sensor\r\nFAIL ERROR no such turnout\r\nCVS OK\r\n";
     assert_eq!(rt; text.as_slice(), wanted.as_slice());
     let mut text = Text::new();
     push_change(&mut text, b"shunter", 29, 6);

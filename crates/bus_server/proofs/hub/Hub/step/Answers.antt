@@ -15,7 +15,7 @@ use Rattle.bus_server.specs.DeviceReports.{queue_of}
 use Rattle.bus_server.specs.Placement.{answered}
 use Rattle.bus_server.specs.Programming.{programmed, programming_requested}
 use Rattle.bus_server.specs.Snapshots.{state_of}
-use Rattle.bus_server.specs.Sensors.{railway_placed, reports_due}
+use Rattle.bus_server.specs.Sensors.{railway_requested, reports_due}
 use Rattle.bus_server.proofs.Placing.{length-after, names-answered, names-programmed, placed_by, within_capacity-after}
 use Rattle.bus_server.proofs.hub.Hub.step.Goals as goal
 
@@ -31,7 +31,7 @@ first_after-self-requires-clause-client c = ap names_client c.step-outcome.ensur
 pub enqueue-requires : goal.enqueue-requires
 enqueue-requires c =
     ap names_client c.answer-outcome.ensures.answered
-    ∙ names-programmed c.args.self.now.sensors.programming (answered (names_of c.update.new.self.nodes.items) c.args.self.now.sensors.railway c.step-outcome.result)
+    ∙ names-programmed c.args.self.now.sensors.programming c.args.self.now.sensors.railway (answered (names_of c.update.new.self.nodes.items) c.args.self.now.sensors.railway c.step-outcome.result)
     ∙ names-answered (names_of c.update.new.self.nodes.items) c.args.self.now.sensors.railway c.step-outcome.result
     ∙ ap names_client c.step-outcome.ensures.outcome ∙ placed_by (bus_state c.args.self.now.bus) c.args.event.now c.requires
 
@@ -49,8 +49,8 @@ told : (c : goal.After-self-2-1) → c.answer-outcome.result ≡ outcome_in (sta
 told c =
     let old = c.args.self.now in
     c.answer-outcome.ensures.answered
-    ∙ ap (λ (nodes : ArrayVec NamedNode). programmed old.sensors.programming (answered (names_of nodes.items) old.sensors.railway c.step-outcome.result)) c.update.ensures.nodes
-    ∙ ap (λ (outcome : Outcome). programmed old.sensors.programming (answered (names_of old.answers.nodes.items) old.sensors.railway outcome)) c.step-outcome.ensures.outcome
+    ∙ ap (λ (nodes : ArrayVec NamedNode). programmed old.sensors.programming old.sensors.railway (answered (names_of nodes.items) old.sensors.railway c.step-outcome.result)) c.update.ensures.nodes
+    ∙ ap (λ (outcome : Outcome). programmed old.sensors.programming old.sensors.railway (answered (names_of old.answers.nodes.items) old.sensors.railway outcome)) c.step-outcome.ensures.outcome
 
 pub returns-clause-outcome : goal.returns-clause-outcome
 returns-clause-outcome c = told c
@@ -64,8 +64,8 @@ returns-clause-runs c =
       bus = c.step-outcome.ensures.bus;
       nodes = c.step-outcome.ensures.nodes;
       railway = c.answer-outcome.ensures.railway
-          ∙ ap (λ (nodes : ArrayVec NamedNode). railway_placed (names_of nodes.items) c.step-outcome.result old.sensors.railway) c.update.ensures.nodes
-          ∙ ap (λ (outcome : Outcome). railway_placed (names_of old.answers.nodes.items) outcome old.sensors.railway) outcome;
+          ∙ ap (λ (nodes : ArrayVec NamedNode). railway_requested (names_of nodes.items) c.step-outcome.result old.sensors.railway) c.update.ensures.nodes
+          ∙ ap (λ (outcome : Outcome). railway_requested (names_of old.answers.nodes.items) outcome old.sensors.railway) outcome;
       programming = c.answer-outcome.ensures.programming ∙ ap (λ (outcome : Outcome). programming_requested outcome old.sensors.programming) outcome;
       unreported = c.answer-outcome.ensures.unreported
           ∙ ap (λ (nodes : ArrayVec NamedNode). reports_due (names_of nodes.items) c.step-outcome.result old.sensors.railway (queue_of old.sensors.unreported)) c.update.ensures.nodes
