@@ -18,6 +18,7 @@ from .trains import Train, read_train_line, read_turnout_line
 # The most turns that a client requests at once.
 MOST_TURNS = 10_000
 LAST_SENSOR = 4096
+LAST_SWITCH = 2040
 READ_BYTES = 8192
 
 SomeClient = TypeVar("SomeClient", bound="Client")
@@ -284,6 +285,31 @@ class Client(Throttle):
         line = self._answer("PLACE", request)
         if line != "PLACE OK":
             raise StationError(line)
+
+    def fail_sensor(self, number: int, on: bool = True) -> None:
+        """Lets a sensor of the plan, 1 to 4096, report that it is occupied, or free, whatever is there, until `end_failures`.
+
+        `lbserver` runs with `--plan`.
+        """
+        self._fail(f"sensor {in_range(number, 1, LAST_SENSOR, 'a sensor')} {'on' if on else 'off'}")
+
+    def fail_turnout(self, switch: int) -> None:
+        """Lets a turnout of the plan, 1 to 2040, stay as it lies, whatever is asked of it, until `end_failures`.
+
+        `lbserver` runs with `--plan`.
+        """
+        self._fail(f"turnout {in_range(switch, 1, LAST_SWITCH, 'a switch')}")
+
+    def end_failures(self) -> None:
+        """Ends all failures, also that of a programming track. A turnout stays as it lies until it is asked again."""
+        self._fail("none")
+
+    def _fail(self, words: str) -> None:
+        request = f"FAIL {words}"
+        self._request(request)
+        line = self._answer("FAIL", request)
+        if line != "FAIL OK":
+            raise StationError(f"{request}: {line.removeprefix('FAIL ERROR ')}")
 
     def _refusal(self) -> Reply | None:
         """The reply to the message that was sent last, if the next line is one."""

@@ -106,7 +106,7 @@ class Programmer:
         self._arrange(f"MOUNT {name or 'nothing'}")
 
     def fail(self, fails: bool = True) -> None:
-        """Lets acknowledgments fail from now on, or no more: decoders obey, and draw no current."""
+        """Lets acknowledgments fail from now on: decoders obey, and draw no current. Or ends all failures, also of a plan."""
         self._arrange("FAIL programming" if fails else "FAIL none")
 
     def changes(self) -> dict[str, dict[int, int]]:

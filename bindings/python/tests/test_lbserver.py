@@ -488,6 +488,25 @@ class TestClient(unittest.TestCase):
             received, ["PLACE express back 1500", "PLACE express back 0 a", "PLACE express front 9999999 b", ""]
         )
 
+    def test_failures(self):
+        with scripted(
+            ["VERSION x"], ["FAIL OK", "RECEIVE B2 01 50 1C"], ["FAIL OK"], ["FAIL ERROR no such turnout"], ["FAIL OK"]
+        ) as (port, received):
+            with Client("127.0.0.1", port) as client:
+                client.fail_sensor(3)
+                client.wait_for_sensor(3)
+                client.fail_sensor(4096, on=False)
+                with self.assertRaisesRegex(StationError, "^FAIL turnout 2040: no such turnout$"):
+                    client.fail_turnout(2040)
+                client.end_failures()
+                for sensor in (0, 4097):
+                    with self.assertRaisesRegex(ValueError, "a sensor is"):
+                        client.fail_sensor(sensor)
+                for switch in (0, 2041):
+                    with self.assertRaisesRegex(ValueError, "a switch is"):
+                        client.fail_turnout(switch)
+        self.assertEqual(received, ["FAIL sensor 3 on", "FAIL sensor 4096 off", "FAIL turnout 2040", "FAIL none", ""])
+
     def test_sensor_reports(self):
         # OPC_INPUT_REP: the sensor of turnout address 0, then 1 with the auxiliary input, then the last sensor.
         first, second, last = "RECEIVE B2 00 40 0D", "RECEIVE B2 00 70 3D", "RECEIVE B2 7F 7F 4D"
@@ -677,8 +696,8 @@ class TestServer(unittest.TestCase):
             track = server.programmer()
             with self.assertRaises(ProgrammerBusyError):
                 track.read(1)
-            with self.assertRaisesRegex(NoProgrammingTrackError, "FAIL none: no programming track"):
-                track.fail(False)
+            with self.assertRaisesRegex(NoProgrammingTrackError, "FAIL programming: no programming track"):
+                track.fail()
 
     def test_decoders_change_places(self):
         with Server("--programmer", str(OVAL_ROSTER), "--rate", "100") as server:

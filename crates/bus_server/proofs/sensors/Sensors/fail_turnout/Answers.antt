@@ -9,10 +9,10 @@ use Rattle.bus_server.proofs.Naming.{turnout_reports}
 use Rattle.bus_server.proofs.sensors.Sensors.fail_turnout.Goals as goal
 
 -- a turnout that fails makes nothing due
-none_due : (now : Option RailwayState) (railway : RailwayState) (switch : ℕ) (unreported due : List DeviceReport) → now ≡ Some railway → due ≡ [] → due ≡ due_of (Some (TurnoutFails switch)) now unreported
-none_due now railway switch unreported due is none =
+none_due : (now : Option RailwayState) (railway : RailwayState) (switch : ℕ) (before after : List DeviceReport) → now ≡ Some railway → after ≡ [] → after ≡ due_of (Some (TurnoutFails switch)) now before
+none_due now railway switch before after is none =
     none ∙ ap (λ (reports : List SensorReport). of_sensors reports) (turnout_reports railway switch)
-    ∙ sym (ap (λ (r : Option RailwayState). due_of (Some (TurnoutFails switch)) r unreported) is)
+    ∙ sym (ap (λ (r : Option RailwayState). due_of (Some (TurnoutFails switch)) r before) is)
 
 pub returns-then-fail_turnout-clause-unreported : goal.returns-then-fail_turnout-clause-unreported
 returns-then-fail_turnout-clause-unreported c =
