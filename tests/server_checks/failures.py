@@ -35,7 +35,7 @@ def fail(client, words, answer="OK"):
 
 
 def failing_sensors():
-    """--plan: sensors that fail report what they are told, to all clients alike, while trains run on; until all failures end"""
+    """--plan: sensors that fail report their level, to all clients alike, while trains run on, until all failures end"""
     with serve(*OVAL, "--turns", "1", "--clients", "2") as server:
         with Client(server) as watcher, Client(server) as driver:
             # The siding is free, and so is east at the start.

@@ -5,7 +5,7 @@ use Rattle.refresh_ring.specs.declared.pick.Power.{Power}
 use Rattle.ln_ops.specs.declared.sensor.SensorReport.{SensorReport}
 use Rattle.railway.specs.declared.fault.PlaceFault.{PlaceFault}
 use Rattle.railway.specs.declared.train.Position.{Position}
-use Rattle.railway.specs.Failures.{block_with, none_failing, told, with_failing}
+use Rattle.railway.specs.Failures.{block_with, none_failing, with_failing, with_sensor}
 use Rattle.railway.specs.Railway.{RailwayState, elapsed, is_sensed, place_fault, placed_in}
 use Rattle.railway.specs.Reports.{changes}
 
@@ -27,7 +27,7 @@ unless_refused (Some fault) placed railway = railway
 abbrev pub sensor_failed : Option ℕ → (occupied : Bool) → RailwayState → RailwayState
 sensor_failed None occupied railway = railway
 sensor_failed (Some block) occupied railway =
-    record railway { failing = told railway.failing block occupied }
+    record railway { failing = with_sensor railway.failing block occupied }
 
 abbrev pub after : RailwayState → Happening → RailwayState
 after railway (Elapses micros power nodes) = elapsed railway micros power nodes

@@ -13,8 +13,8 @@ abbrev pub none_failing : FailingSensors
 none_failing = record { occupied = no_blocks; free = no_blocks }
 
 -- the sensor of a block fails: it reports the block as occupied, or as free
-abbrev pub told : FailingSensors → (block : ℕ) → (occupied : Bool) → FailingSensors
-told failing block occupied = record {
+abbrev pub with_sensor : FailingSensors → (block : ℕ) → (occupied : Bool) → FailingSensors
+with_sensor failing block occupied = record {
   occupied = slice_set failing.occupied block occupied;
   free = slice_set failing.free block (not occupied);
 }

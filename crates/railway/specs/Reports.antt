@@ -22,8 +22,8 @@ same_blocks one other = pointwise beq one.under other.under
 abbrev pub is_occupied : List TrainState → (block : ℕ) → Bool
 is_occupied trains block = list_any (occupies block) trains
 
--- The sensor of a block finds it occupied: a part of one of the trains is in it. One that fails finds
--- what it is told.
+-- The sensor of a block finds it occupied: a part of one of the trains is in it. One that fails
+-- finds what its failure says.
 abbrev pub senses : FailingSensors → List TrainState → (block : ℕ) → Bool
 senses failing trains block =
     (is_occupied trains block || slice_index_or failing.occupied block false)

@@ -4,7 +4,7 @@ ghost use Rattle.std.specs.List.{list_all, list_any, slice_index_or};
 ghost use Rattle.std.specs.Option.{option_eq};
 ghost use Rattle.railway.specs.Course.{after, reports_of};
 ghost use Rattle.railway.specs.Course.Happening.{FailuresEnd, SensorFails, TurnoutFails};
-ghost use Rattle.railway.specs.Failures.{block_with, failing_by, has_switch, none_failing, told, with_failing};
+ghost use Rattle.railway.specs.Failures.{block_with, failing_by, has_switch, none_failing, with_failing, with_sensor};
 ghost use Rattle.railway.specs.Reports.{is_report};
 
 use crate::block::Block;
@@ -29,9 +29,9 @@ impl FailingSensors {
     }
 
     /// Returns the failing sensors with that of a block, which reports it as occupied, or as free.
-    fn told(self, block: u8, occupied: bool) -> FailingSensors
+    fn with(self, block: u8, occupied: bool) -> FailingSensors
         requires { block < 64 }
-        ensures { result ≡ told self block occupied }
+        ensures { result ≡ with_sensor self block occupied }
     {
         if occupied {
             FailingSensors {
@@ -71,7 +71,7 @@ impl Railway {
     {
         let block = block_with(self.blocks(), sensor)?;
         let before = self.sensed();
-        self.failing = self.failing.told(block as u8, occupied);
+        self.failing = self.failing.with(block as u8, occupied);
         Some(self.changes_since(before))
     }
 

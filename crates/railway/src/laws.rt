@@ -21,7 +21,7 @@ ghost use Rattle.railway.specs.Blocks.{default_block, length_of};
 ghost use Rattle.railway.specs.Conflicts.{conflict_in};
 ghost use Rattle.railway.specs.Course.{Happening, after, after_all, reports_of_all};
 ghost use Rattle.railway.specs.Laws.{AreChanges, HasAllBlocks, IsConflict, IsOnRails, IsOnWay, StandsBetween, is_failure, is_moving_end, is_sensor_failure, leading, moved_on_under, runs_only, speed_times_time, train_after, velocity_of, way_of};
-ghost use Rattle.railway.specs.Failures.{failing_by, has_switch, none_failing, told};
+ghost use Rattle.railway.specs.Failures.{failing_by, has_switch, none_failing, with_sensor};
 ghost use Rattle.railway.specs.Network.{Network, exit_of, is_sound, lies, onward, switch_at, way_on};
 ghost use Rattle.railway.specs.Places.{end_ahead, is_derailed, leading_end, span, still, to_end};
 ghost use Rattle.railway.specs.Railway.{RailwayState, elapsed, is_piece, is_railway, is_sensed, is_train, laid_in, ran_in, reports_in, run_in, run_under};
@@ -274,17 +274,17 @@ pub fn observers_know()
         ≡ is_sensed (after_all railway happenings) block }
 {}
 
-/// A sensor that fails finds what it is told, wherever trains are, until all failures end; each other
-/// finds its block. Failures move no train.
-pub fn failing_sensors_find_what_they_are_told()
-    ensures told { (failing : FailingSensors) (trains : List TrainState) (block : ℕ)
+/// A sensor that fails keeps the level of its failure, wherever trains are, until all failures end; each
+/// other finds its block. Failures move no train.
+pub fn failing_sensors_keep_their_level()
+    ensures level { (failing : FailingSensors) (trains : List TrainState) (block : ℕ)
         (occupied : Bool) → HasAllBlocks failing → block < 64
-        → senses (told failing block occupied) trains block ≡ occupied }
+        → senses (with_sensor failing block occupied) trains block ≡ occupied }
     ensures others { (failing : FailingSensors) (trains : List TrainState) (block other : ℕ)
         (occupied : Bool) → other ≢ block
-        → senses (told failing block occupied) trains other ≡ senses failing trains other }
+        → senses (with_sensor failing block occupied) trains other ≡ senses failing trains other }
     ensures blocks { (failing : FailingSensors) (block : ℕ) (occupied : Bool)
-        → HasAllBlocks failing → HasAllBlocks (told failing block occupied) }
+        → HasAllBlocks failing → HasAllBlocks (with_sensor failing block occupied) }
     ensures none { (trains : List TrainState) (block : ℕ) → block < 64
         → senses none_failing trains block ≡ is_occupied trains block }
     ensures stays { (railway : RailwayState) (happening : Happening)

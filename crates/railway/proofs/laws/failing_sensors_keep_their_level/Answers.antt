@@ -5,12 +5,12 @@ use Rattle.railway.specs.declared.failing_sensors.FailingSensors.{FailingSensors
 use Rattle.railway.specs.declared.train.TrainState.{TrainState}
 use Rattle.railway.specs.Course.{Happening, after, sensor_failed, unless_refused}
 use Rattle.railway.specs.Course.Happening.{Elapses, FailuresEnd, Places, SensorFails, TurnoutFails}
-use Rattle.railway.specs.Failures.{block_with, none_failing, told}
+use Rattle.railway.specs.Failures.{block_with, none_failing, with_sensor}
 use Rattle.railway.specs.Laws.{HasAllBlocks, is_failure, is_sensor_failure}
 use Rattle.railway.specs.Railway.{RailwayState, laid_in, place_fault, placed_in}
 use Rattle.railway.specs.Reports.{is_occupied, senses}
 use Rattle.railway.proofs.Faulty.{run_through-failing}
-use Rattle.railway.proofs.laws.failing_sensors_find_what_they_are_told.Goals as goal
+use Rattle.railway.proofs.laws.failing_sensors_keep_their_level.Goals as goal
 
 by-marks : (there occupied : Bool) → ((there || occupied) && not (not occupied)) ≡ occupied
 by-marks true true = refl
@@ -18,18 +18,18 @@ by-marks true false = refl
 by-marks false true = refl
 by-marks false false = refl
 
-told-own : (failing : FailingSensors) (trains : List TrainState) (block : ℕ) (occupied : Bool) → HasAllBlocks failing → block < 64 → senses (told failing block occupied) trains block ≡ occupied
-told-own failing trains block occupied h less =
+level-own : (failing : FailingSensors) (trains : List TrainState) (block : ℕ) (occupied : Bool) → HasAllBlocks failing → block < 64 → senses (with_sensor failing block occupied) trains block ≡ occupied
+level-own failing trains block occupied h less =
     let first = get_or-set_same failing.occupied block occupied false (omega (arith, less, h.0)) in
     let second = get_or-set_same failing.free block (not occupied) false (omega (arith, less, h.1)) in
     ap₂ (λ (a b : Bool). (is_occupied trains block || a) && not b) first second ∙ by-marks (is_occupied trains block) occupied
 
-told-other : (failing : FailingSensors) (trains : List TrainState) (block other : ℕ) (occupied : Bool) → other ≢ block → senses (told failing block occupied) trains other ≡ senses failing trains other
-told-other failing trains block other occupied apart =
+level-other : (failing : FailingSensors) (trains : List TrainState) (block other : ℕ) (occupied : Bool) → other ≢ block → senses (with_sensor failing block occupied) trains other ≡ senses failing trains other
+level-other failing trains block other occupied apart =
     ap₂ (λ (a b : Bool). (is_occupied trains other || a) && not b) (get_or-set_other failing.occupied block other occupied false apart) (get_or-set_other failing.free block other (not occupied) false apart)
 
-told-blocks : (failing : FailingSensors) (block : ℕ) (occupied : Bool) → HasAllBlocks failing → HasAllBlocks (told failing block occupied)
-told-blocks failing block occupied h = (length-set failing.occupied block occupied ∙ h.0, length-set failing.free block (not occupied) ∙ h.1)
+all-blocks : (failing : FailingSensors) (block : ℕ) (occupied : Bool) → HasAllBlocks failing → HasAllBlocks (with_sensor failing block occupied)
+all-blocks failing block occupied h = (length-set failing.occupied block occupied ∙ h.0, length-set failing.free block (not occupied) ∙ h.1)
 
 as-there : (there : Bool) → ((there || false) && not false) ≡ there
 as-there true = refl
@@ -62,9 +62,9 @@ moves-none railway FailuresEnd h = refl
 
 pub returns : goal.returns
 returns c = record {
-  told = told-own;
-  others = told-other;
-  blocks = told-blocks;
+  level = level-own;
+  others = level-other;
+  blocks = all-blocks;
   none = none-failing;
   stays = stays;
   trains = moves-none;
