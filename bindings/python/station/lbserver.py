@@ -161,6 +161,20 @@ class Server(Throttle, HasNodes):
         self._own_client().place(train, block, front, facing)
         self.sync()
 
+    def fail_sensor(self, number: int, on: bool = True) -> None:
+        """Lets a sensor fail, as `Client.fail_sensor` does. The server runs with a plan."""
+        self._own_client().fail_sensor(number, on)
+        self.sync()
+
+    def fail_turnout(self, switch: int) -> None:
+        """Lets a turnout fail, as `Client.fail_turnout` does. The server runs with a plan."""
+        self._own_client().fail_turnout(switch)
+
+    def end_failures(self) -> None:
+        """Ends all failures, as `Client.end_failures` does."""
+        self._own_client().end_failures()
+        self.sync()
+
     def sync(self) -> None:
         """Waits until the log has all that happened before this call, whoever sent it."""
         self._own_client().sync()

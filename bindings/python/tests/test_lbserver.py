@@ -759,6 +759,27 @@ class TestServer(unittest.TestCase):
             with Server(*options, roster=OVAL_ROSTER, plan=plan) as server:
                 server.wait_for_sensor(4, seconds=0)
 
+    def test_devices_fail(self):
+        with Server("--turns", "0", roster=OVAL_ROSTER, plan=OVAL.read_text()) as server, server.client() as client:
+            server.fail_sensor(3)
+            self.assertEqual(server.occupied(), {1, 3, 4})
+            client.fail_sensor(1, on=False)
+            client.sync()
+            self.assertEqual(client.occupied(), {3})
+            server.fail_turnout(2)
+            server.power_on()
+            server.turnout(2).throw()
+            server.turns(20)
+            self.assertEqual(server.turnouts(), {1: False, 2: False})
+            server.end_failures()
+            reports = [SensorReport(3, True), SensorReport(1, False), SensorReport(1, True), SensorReport(3, False)]
+            self.assertEqual(server.sensor_reports(), reports)
+            self.assertEqual(server.turnouts(), {1: False, 2: False})
+            with self.assertRaisesRegex(StationError, "FAIL sensor 6 on: no such sensor"):
+                server.fail_sensor(6)
+            with self.assertRaisesRegex(StationError, "FAIL turnout 3: no such turnout"):
+                server.fail_turnout(3)
+
     def test_waits_end(self):
         with Server(roster=ROSTER) as server:
             with self.assertRaisesRegex(TimeoutError, "it runs; its log ends"):
