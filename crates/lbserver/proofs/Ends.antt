@@ -1,20 +1,27 @@
 -- What a run of arguments ended by.
-use Rattle.std.proofs.Common.{◌≡◌, ℕ, Bool, true, false, List, Result, Ok, Err, refl, subst, sym, ◌∙◌, arith, inl, inr}
+use Rattle.std.proofs.Common.{◌≡◌, ℕ, Bool, true, false, List, Result, Ok, Err, refl, ap, subst, sym, ◌∙◌, arith, inl, inr}
 use Rattle.std.specs.Prelude.{◌⊎◌, ◌||◌, ◌==◌, IfErr, not}
 use Rattle.std.proofs.lemmas.Bool.{both_ways}
 use Rattle.command_line.specs.declared.fault.OrderFault.{OrderFault}
+use Rattle.command_line.specs.declared.fault.OrderFault.TheVariants as words
 use Rattle.command_line.specs.Requests.{is_request}
 use Rattle.console.specs.declared.fault.RunFault.TheVariants.{NoMemory}
 use Rattle.server_orders.specs.ServerLine.{IsServerFault}
 use Rattle.lbserver.specs.declared.fault.ServerFault.{ServerFault}
 use Rattle.lbserver.specs.declared.fault.ServerFault.TheVariants.{Order, Output, Run}
-use Rattle.lbserver.specs.Execution.{AreNoOrder, IsEnd, is_of_file, status_of}
+use Rattle.lbserver.specs.Execution.{AreNoOrder, IsEnd, ended_by_output, is_of_file, status_of}
 
 -- for a file only if one is named
-pub of_named : {A : Type 0} (P : Type 0) (named failed : Bool) (r : Result A ServerFault) → (named ≡ true → P) → IsEnd named failed r → IfErr r (λ fault. is_of_file fault ≡ true → P)
-of_named P named failed (Ok value) gives ends = tt
-of_named P true failed (Err fault) gives ends = λ of. gives refl
-of_named P false failed (Err fault) gives ends = λ of. absurd (both_ways false refl (subst (λ (b : Bool). not b ≡ true) of ends.1))
+pub of_named : {A : Type 0} (P : Type 0) (named failed faulted : Bool) (r : Result A ServerFault) → (named ≡ true → P) → IsEnd named failed faulted r → IfErr r (λ fault. is_of_file fault ≡ true → P)
+of_named P named failed faulted (Ok value) gives ends = tt
+of_named P true failed faulted (Err fault) gives ends = λ of. gives refl
+of_named P false failed faulted (Err fault) gives ends = λ of. absurd (both_ways false refl (subst (λ (b : Bool). not b ≡ true) of ends.1))
+
+-- with status 4 only if a call of the system failed
+pub of_faulted : {A : Type 0} (P : Type 0) (named failed faulted : Bool) (r : Result A ServerFault) → (faulted ≡ true → P) → IsEnd named failed faulted r → IfErr r (λ fault. status_of fault ≡ 4 → P)
+of_faulted P named failed faulted (Ok value) gives ends = tt
+of_faulted P named failed true (Err fault) gives ends = λ four. gives refl
+of_faulted P named failed false (Err fault) gives ends = λ four. absurd (both_ways false refl (subst (λ (n : ℕ). not (n == 4) ≡ true) four ends.3))
 
 abbrev HasStatus1 : {A : Type 0} → Result A ServerFault → Type 0
 HasStatus1 (Ok a) = ⊥
@@ -30,12 +37,35 @@ no_order words fault true (Err e) same is asked kept = λ one. elim (asked same)
 ]
 no_order {A = A} words fault false (Err e) same is asked kept = λ one. (fault, is, subst (λ (r : Result A ServerFault). HasStatus1 r) (kept same) one)
 
+abbrev HasStatus4 : {A : Type 0} → Result A ServerFault → Type 0
+HasStatus4 (Ok a) = ⊥
+HasStatus4 (Err fault) = status_of fault ≡ 4
+
+not_network : (fault : OrderFault) → status_of (Order fault) ≡ 4 → ⊥
+not_network (words.Usage error) four = absurd (omega (arith, four))
+not_network words.NoMemory four = absurd (omega (arith, four))
+
+-- with status 4 only if they ask for a text, and it was not written
+pub unwritten : {A : Type 0} (P : Type 0) (fault : OrderFault) (asks : Bool) (r : Result A ServerFault) → is_request fault ≡ asks
+    → (is_request fault ≡ true → IfErr r (λ e. (e ≡ Output) ⊎ (e ≡ Run NoMemory))) → (is_request fault ≡ false → r ≡ Err (Order fault))
+    → (is_request fault ≡ true → ended_by_output r ≡ true → P) → IfErr r (λ e. status_of e ≡ 4 → P)
+unwritten P fault asks (Ok a) same asked kept gives = tt
+unwritten {A = A} P fault true (Err e) same asked kept gives = λ four. elim (asked same) [
+  | inl output ↦ gives same (ap (λ (f : ServerFault). ended_by_output {A = A} (Err f)) output)
+  | inr memory ↦ let six : 6 ≡ 4 = subst (λ (f : ServerFault). status_of f ≡ 4) memory four in absurd (omega (arith, six))
+]
+unwritten {A = A} P fault false (Err e) same asked kept gives = λ four. absurd (not_network fault (subst (λ (r : Result A ServerFault). HasStatus4 r) (kept same) four))
+
 -- a run that was carried out has status 0 or 7
 pub done_or_lost : {P Q : Type 0} (failed : Bool) (status : ℕ) → (failed ≡ false → (status ≡ 0) × Q) → (failed ≡ true → status ≡ 7) → (status ≡ 2) ⊎ (status ≡ 3) → P
 done_or_lost true status whole lost (inl two) = let seven = lost refl in absurd (omega (arith, seven, two))
 done_or_lost true status whole lost (inr three) = let seven = lost refl in absurd (omega (arith, seven, three))
 done_or_lost false status whole lost (inl two) = let none = (whole refl).0 in absurd (omega (arith, none, two))
 done_or_lost false status whole lost (inr three) = let none = (whole refl).0 in absurd (omega (arith, none, three))
+
+pub not_stopped : {P Q : Type 0} (failed : Bool) (status : ℕ) → (failed ≡ false → (status ≡ 0) × Q) → (failed ≡ true → status ≡ 7) → status ≡ 4 → P
+not_stopped true status whole lost four = let seven = lost refl in absurd (omega (arith, seven, four))
+not_stopped false status whole lost four = let none = (whole refl).0 in absurd (omega (arith, none, four))
 
 -- 2 and 3 are those of files
 pub of_file : (status : ℕ) (fault : ServerFault) → status ≡ status_of fault → (status ≡ 2) ⊎ (status ≡ 3) → is_of_file fault ≡ true

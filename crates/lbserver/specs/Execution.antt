@@ -26,6 +26,7 @@ use Rattle.bus_server.specs.Observations.{Observation}
 use Rattle.bus_server.specs.Running.{IsRun, RunSnapshot}
 use Rattle.bus_server.specs.TransportEvents.{TransportEvent}
 use Rattle.lbserver.specs.Programmers.{IsProgrammingOf}
+use Rattle.lbserver.specs.declared.device_logs.DeviceLogs.{DeviceLogs}
 use Rattle.lbserver.specs.declared.fault.ServerFault.{ServerFault}
 use Rattle.lbserver.specs.declared.fault.ServerFault.TheVariants.{Listen, Order, Output, Plan, Roster, Run, Unopened}
 
@@ -76,12 +77,12 @@ pub record RunLogs : Type 0 where
   pub observed : Option (List Observation)
   pub shown : Option (List Shown)
 
--- sockets, the system's clock, the printer and standard output keep none
-abbrev pub unlogged : RunLogs
-unlogged = record { log = None; readings = None; observed = None; shown = None }
-
 abbrev pub logs_of : (log : Option (List TransportEvent)) → (readings : Option (List ℕ)) → (shown : Option (List Shown)) → RunLogs
 logs_of log readings shown = record { log = log; readings = readings; observed = None; shown = shown }
+
+-- of sockets and their clock; the printer and standard output keep none
+abbrev pub kept : (events : List TransportEvent) → (readings : List ℕ) → RunLogs
+kept events readings = logs_of (Some events) (Some readings) None
 
 abbrev pub moment : RunLogs → ServerState → RunSnapshot
 moment logs state = record { log = logs.log; readings = logs.readings; observed = logs.observed; shown = logs.shown; state = state }
@@ -91,32 +92,36 @@ abbrev pub ServesLogged : ServerOrder → List Entry → Option RailwayState →
 ServesLogged order entries railway programming old new =
     (start end : ServerState) × IsNewServer order entries railway programming start × IsRun (clients_of order.clients) (moment old start) (moment new end)
 
--- and with devices that keep none
-abbrev pub ServesOrder : ServerOrder → List Entry → Option RailwayState → Option BenchState → Type 0
-ServesOrder order entries railway programming = ServesLogged order entries railway programming unlogged unlogged
+-- and these are, from the first on, what all calls of its transport and of its clock returned
+abbrev pub ServesBy : ServerOrder → List Entry → Option RailwayState → Option BenchState → (events : List TransportEvent) → (readings : List ℕ) → Type 0
+ServesBy order entries railway programming events readings = ServesLogged order entries railway programming (kept [] []) (kept events readings)
+
+-- and they are in the logs of the devices
+abbrev pub ServesOrder : ServerOrder → List Entry → Option RailwayState → Option BenchState → DeviceLogs → Type 0
+ServesOrder order entries railway programming logs = ServesBy order entries railway programming logs.sockets.events logs.clock.readings
 
 -- an order is served, with the programming track of its decoders
-abbrev pub ServesProgrammer : ServerOrder → List Entry → Option RailwayState → Type 0
-ServesProgrammer order entries railway =
-    (programming : Option BenchState) × IsProgrammingOf order.programmer programming × ServesOrder order entries railway programming
+abbrev pub ServesProgrammer : ServerOrder → List Entry → Option RailwayState → DeviceLogs → Type 0
+ServesProgrammer order entries railway logs =
+    (programming : Option BenchState) × IsProgrammingOf order.programmer programming × ServesOrder order entries railway programming logs
 
 -- and with the railway of its plan
-abbrev pub ServesPlan : ServerOrder → List Entry → Type 0
-ServesPlan order entries =
-    (railway : Option RailwayState) × IsRailwayOf order.plan entries railway × ServesProgrammer order entries railway
+abbrev pub ServesPlan : ServerOrder → List Entry → DeviceLogs → Type 0
+ServesPlan order entries logs =
+    (railway : Option RailwayState) × IsRailwayOf order.plan entries railway × ServesProgrammer order entries railway logs
 
 -- The arguments are those of an order, and it is served, with its roster.
-abbrev pub ServesWords : List (List ℕ) → Type 0
-ServesWords words =
-    (order : ServerOrder) × (roster : Option (List Entry)) × IsServerOrderOf words order × IsRosterOf order.roster roster × ServesPlan order (entries_in roster)
+abbrev pub ServesWords : List (List ℕ) → DeviceLogs → Type 0
+ServesWords words logs =
+    (order : ServerOrder) × (roster : Option (List Entry)) × IsServerOrderOf words order × IsRosterOf order.roster roster × ServesPlan order (entries_in roster) logs
 
 -- Clap answers the arguments with help or the version, and a text was written: which one, clap does
 -- not specify.
 abbrev pub AnswersWords : List (List ℕ) → (old_output new_output : Option (List ℕ)) → Type 0
 AnswersWords words old_output new_output = AsksServer words × ((text : List ℕ) × Appends old_output new_output text)
 
-abbrev pub RunsWords : List (List ℕ) → (old_output new_output : Option (List ℕ)) → Type 0
-RunsWords words old_output new_output = ServesWords words ⊎ AnswersWords words old_output new_output
+abbrev pub RunsWords : List (List ℕ) → (old_output new_output : Option (List ℕ)) → DeviceLogs → Type 0
+RunsWords words old_output new_output logs = ServesWords words logs ⊎ AnswersWords words old_output new_output
 
 -- the exit status for a fault
 abbrev pub status_of : ServerFault → ℕ
@@ -143,16 +148,22 @@ names_file order = is_some order.roster || is_some order.plan || is_some order.p
 abbrev pub NameFile : List (List ℕ) → Type 0
 NameFile words = (order : ServerOrder) × IsServerOrderOf words order × (names_file order ≡ true)
 
+-- The arguments are those of an order, and a call of the system failed; or they ask for a text, and it could not be written.
+abbrev pub IsStopped : List (List ℕ) → (failed : Bool) → DeviceLogs → Type 0
+IsStopped words failed logs =
+    ((order : ServerOrder) × IsServerOrderOf words order × (logs.faults.failed ≡ true)) ⊎ (AsksServer words × (failed ≡ true))
+
 -- A run of an order, which names a file or none, ended with this fault: not for the words; for a file only if one is named;
--- and once standard output could not be written, with status 4.
-abbrev pub EndsBy : (named failed : Bool) → ServerFault → Type 0
-EndsBy named failed fault =
-    ((status_of fault == 1) ≡ false) × ((if named then true else not (is_of_file fault)) ≡ true) × ((if failed then status_of fault == 4 else true) ≡ true)
+-- once standard output could not be written, with status 4; and with that only if a call of the system failed.
+abbrev pub EndsBy : (named failed faulted : Bool) → ServerFault → Type 0
+EndsBy named failed faulted fault =
+    ((status_of fault == 1) ≡ false) × ((if named then true else not (is_of_file fault)) ≡ true)
+    × ((if failed then status_of fault == 4 else true) ≡ true) × ((if faulted then true else not (status_of fault == 4)) ≡ true)
 
 -- A run of an order ended, if with a fault with one of these.
-abbrev pub IsEnd : {A : Type 0} → (named failed : Bool) → Result A ServerFault → Type 0
-IsEnd named failed (Ok a) = ⊤
-IsEnd named failed (Err fault) = EndsBy named failed fault
+abbrev pub IsEnd : {A : Type 0} → (named failed faulted : Bool) → Result A ServerFault → Type 0
+IsEnd named failed faulted (Ok a) = ⊤
+IsEnd named failed faulted (Err fault) = EndsBy named failed faulted fault
 
 -- whether a text could not be written
 abbrev pub ended_by_output : {A : Type 0} → Result A ServerFault → Bool

@@ -29,8 +29,7 @@ impl<'s, 'p, R: Clock, O: Write> AfterRound<Sockets<'s, R>, Printer<'p>> for Sta
         world: &World,
         railway: Option<&Railway>,
     ) -> Result<(), Infallible> {
-        self.updates
-            .send_all(transport, printer.roster(), world, railway);
+        transport.update_pages(&mut self.updates, printer.roster(), world, railway);
         // The output notes a failed write. The lines stay queued, and are tried again after the next round.
         let _ = printer.write_queued(self, Duration::ZERO);
         Ok(())

@@ -1,31 +1,33 @@
 //! Running the program on its arguments, its port and its clock.
-ghost use Rattle.std.specs.Prelude.{◌≡◌, ◌⊎◌, ◌≤◌, IfErr, None, OnOk, false, map, true};
+ghost use Rattle.std.specs.Prelude.{◌≡◌, ◌⊎◌, ◌≤◌, IfErr, None, OnOk, [], false, map, true};
 ghost use Rattle.roster.specs.Decoders.{entries_of};
 ghost use Rattle.bus_log.specs.Verbosities.{verbosity_of};
+ghost use Rattle.bus_server.specs.Running.{run_snapshot};
 ghost use Rattle.bus_server.specs.Snapshots.{state_of};
+ghost use Rattle.bus_server.specs.SoFar.{IsBeginning};
 ghost use Rattle.console.specs.Files.{IsRosterOf};
-ghost use Rattle.lbserver.specs.Execution.{HasPace, IsReady, RunsWords, ServesLogged, logs_of, ServesOrder, ServesPlan, ServesProgrammer, AreNoOrder, IsEnd, NameFile, clients_of, entries_in, is_of_file, names_file, pace_of, status_of};
+ghost use Rattle.lbserver.specs.Execution.{AreNoOrder, HasPace, IsEnd, IsReady, IsStopped, NameFile, RunsWords, ServesBy, ServesLogged, ServesOrder, ServesPlan, ServesProgrammer, clients_of, entries_in, is_of_file, logs_of, names_file, pace_of, status_of};
 ghost use Rattle.server_orders.specs.declared.words.ServerOrder.{ServerOrder as OrderValue};
 
 use crate::answering::answer;
+use crate::device_logs::DeviceLogs;
 use crate::fault::ServerFault;
 use crate::files::read_file;
 use crate::plan_file::read_railway;
-use crate::ports;
 use crate::programmer_file::read_programming;
 use crate::reach::reachable;
 use crate::roster_file::read_roster;
 use crate::roster_line::NAME;
-use crate::standard_output::StandardOutput;
+use crate::standard_output::{STANDARD_OUTPUT, StandardOutput};
 use bus_log::{LogQueue, Printer, Verbosity, decoders, print_listening, write_queued};
 use bus_server::{AfterRound, Losses, Pace, Server, Stop, TimeSource, Transport};
 use command_line::FileName;
-use console::RunFault;
 use programming_track::ProgrammingBench;
 use railway::Railway;
 use roster::Roster;
 use server_orders::{ServerOrder, server_order};
-use sockets::{Sockets, Stopwatch, Ticking};
+use sockets::{Sockets, Ticking};
+use std::convert::Infallible;
 use std::io::Write;
 use std::mem;
 use std::net::SocketAddr;
@@ -49,27 +51,33 @@ pub(crate) fn execute<O: Write, E: Write>(
     words: &[&str],
     output: &mut StandardOutput<O>,
     faults: &mut E,
+    logs: &mut DeviceLogs,
 ) -> u8
     requires works { output.old.failed ≡ false }
     ensures most { result ≤ 7 }
-    // Status 0 is returned only after a whole run of the order, or where the arguments ask for help
-    // or the version, which is written to `output`.
+    // Status 0 is returned only after a whole run of the order, by which the logs of its sockets and
+    // its clock grew, or where the arguments ask for help or the version, which is written to `output`.
     ensures serves { result ≡ 0 → RunsWords (map (λ word. word.now) words.entry.now)
-        (O.contents output.old.writer) (O.contents output.new.writer) }
+        (O.contents output.old.writer) (O.contents output.new.writer) logs.new }
     // Status 7 as well, but a write of the log failed meanwhile.
     ensures lost { result ≡ 7 → (output.new.failed ≡ true)
         × RunsWords (map (λ word. word.now) words.entry.now) (O.contents output.old.writer)
-        (O.contents output.new.writer) }
+        (O.contents output.new.writer) logs.new }
     // Status 1 only where the arguments are those of no order, 2 and 3 only where they name a file.
     ensures refuses { result ≡ 1 → AreNoOrder (map (λ word. word.now) words.entry.now) }
     ensures unread { (result ≡ 2) ⊎ (result ≡ 3)
         → NameFile (map (λ word. word.now) words.entry.now) }
+    // Status 4 only where a call of the system failed in a run of an order, or where the text that
+    // the arguments ask for could not be written. Of status 6 nothing is said: what the allocator
+    // refuses is in no log.
+    ensures stopped { result ≡ 4
+        → IsStopped (map (λ word. word.now) words.entry.now) output.new.failed logs.new }
     ensures quiet { result ≡ 0 → faults.new ≡ faults.old }
     // No write of the output failed if the status is 0; if one failed, the status is 4 or 7.
     ensures written { result ≡ 0 → output.new.failed ≡ false }
     ensures unwritten { output.new.failed ≡ true → (result ≡ 4) ⊎ (result ≡ 7) }
 {
-    match run(rt, words, output) {
+    match run(rt, words, output, logs) {
         Ok(()) => end_status(output.failed, faults),
         Err(fault) => fault.report(faults),
     }
@@ -95,19 +103,22 @@ fn run<O: Write>(
     rt: &HostRuntime,
     words: &[&str],
     output: &mut StandardOutput<O>,
+    logs: &mut DeviceLogs,
 ) -> Result<(), ServerFault>
     requires works { output.old.failed ≡ false }
     ensures serves { OnOk result (RunsWords (map (λ word. word.now) words.entry.now)
-        (O.contents output.old.writer) (O.contents output.new.writer)) }
+        (O.contents output.old.writer) (O.contents output.new.writer) logs.new) }
     ensures refuses { IfErr result (λ fault. status_of fault ≡ 1
         → AreNoOrder (map (λ word. word.now) words.entry.now)) }
     ensures unread { IfErr result (λ fault. is_of_file fault ≡ true
         → NameFile (map (λ word. word.now) words.entry.now)) }
+    ensures stopped { IfErr result (λ fault. status_of fault ≡ 4
+        → IsStopped (map (λ word. word.now) words.entry.now) output.new.failed logs.new) }
     ensures unwritten { IfErr result (λ fault. output.new.failed ≡ true
         → status_of fault ≡ 4) }
 {
     match server_order(rt.alloc(), words) {
-        Ok(mut order) => with_roster(rt, &mut order, output),
+        Ok(mut order) => with_roster(rt, &mut order, output, logs),
         Err(fault) => answer(rt.alloc(), fault, output),
     }
 }
@@ -117,16 +128,17 @@ fn with_roster<O: Write>(
     rt: &HostRuntime,
     order: &mut ServerOrder,
     output: &mut StandardOutput<O>,
+    logs: &mut DeviceLogs,
 ) -> Result<(), ServerFault>
     requires works { output.old.failed ≡ false }
     requires pace { HasPace order.old }
     ensures serves { OnOk result
         ((roster : _) × IsRosterOf order.old.roster roster
-        × ServesPlan order.old (entries_in roster)) }
-    ensures end { IsEnd (names_file order.old) output.new.failed result }
+        × ServesPlan order.old (entries_in roster) logs.new) }
+    ensures end { IsEnd (names_file order.old) output.new.failed logs.new.faults.failed result }
 {
     let roster = read_roster(rt, order.roster.take())?;
-    with_plan(rt, order, roster.as_ref(), output)
+    with_plan(rt, order, roster.as_ref(), output, logs)
 }
 
 /// Continues with the railway of the order's plan.
@@ -135,14 +147,15 @@ fn with_plan<O: Write>(
     order: &mut ServerOrder,
     roster: Option<&Roster>,
     output: &mut StandardOutput<O>,
+    logs: &mut DeviceLogs,
 ) -> Result<(), ServerFault>
     requires works { output.old.failed ≡ false }
     requires pace { HasPace order.old }
-    ensures serves { OnOk result (ServesPlan order.old (entries_of roster.entry)) }
-    ensures end { IsEnd (names_file order.old) output.new.failed result }
+    ensures serves { OnOk result (ServesPlan order.old (entries_of roster.entry) logs.new) }
+    ensures end { IsEnd (names_file order.old) output.new.failed logs.new.faults.failed result }
 {
     let railway = read_railway(rt, order.plan.take(), roster)?;
-    with_programming(rt, order, roster, railway, output)
+    with_programming(rt, order, roster, railway, output, logs)
 }
 
 /// Continues with the programming track of the order's decoders.
@@ -152,15 +165,16 @@ fn with_programming<O: Write>(
     roster: Option<&Roster>,
     railway: Option<Railway>,
     output: &mut StandardOutput<O>,
+    logs: &mut DeviceLogs,
 ) -> Result<(), ServerFault>
     requires works { output.old.failed ≡ false }
     requires pace { HasPace order.old }
     ensures serves { OnOk result
-        (ServesProgrammer order.old (entries_of roster.entry) railway) }
-    ensures end { IsEnd (names_file order.old) output.new.failed result }
+        (ServesProgrammer order.old (entries_of roster.entry) railway logs.new) }
+    ensures end { IsEnd (names_file order.old) output.new.failed logs.new.faults.failed result }
 {
     let programming = read_programming(rt, order.programmer.take())?;
-    with_server(rt, order, roster, railway, programming, output)
+    with_server(rt, order, roster, railway, programming, output, logs)
 }
 
 /// Continues with a server for the decoders of this roster, with this railway and programming track.
@@ -171,12 +185,13 @@ fn with_server<O: Write>(
     railway: Option<Railway>,
     programming: Option<ProgrammingBench>,
     output: &mut StandardOutput<O>,
+    logs: &mut DeviceLogs,
 ) -> Result<(), ServerFault>
     requires works { output.old.failed ≡ false }
     requires pace { HasPace order.old }
     ensures serves { OnOk result
-        (ServesOrder order.old (entries_of roster.entry) railway programming) }
-    ensures end { IsEnd (names_file order.old) output.new.failed result }
+        (ServesOrder order.old (entries_of roster.entry) railway programming logs.new) }
+    ensures end { IsEnd (names_file order.old) output.new.failed logs.new.faults.failed result }
 {
     let losses = Losses::new(order.lose, u64::from(order.seed));
     let pace = pace_of(order.turns, order.rate);
@@ -188,7 +203,7 @@ fn with_server<O: Write>(
         pace,
         losses,
     )?;
-    with_sockets(rt, order, roster, &mut server, output)
+    with_sockets(rt, order, roster, &mut server, output, logs)
 }
 
 /// Continues with the sockets of the clients.
@@ -198,20 +213,22 @@ fn with_sockets<O: Write>(
     roster: Option<&Roster>,
     server: &mut Server,
     output: &mut StandardOutput<O>,
+    logs: &mut DeviceLogs,
 ) -> Result<(), ServerFault>
     requires works { output.old.failed ≡ false }
     requires ready { IsReady order.old (entries_of roster) server.old.hub }
     ensures serves { OnOk result (ServesOrder order.old (entries_of roster.entry)
-        (state_of server.old.hub).railway (state_of server.old.hub).programming) }
-    ensures end { IsEnd (names_file order.old) output.new.failed result }
+        (state_of server.old.hub).railway (state_of server.old.hub).programming logs.new) }
+    ensures end { IsEnd (names_file order.old) output.new.failed logs.new.faults.failed result }
 {
     let address = SocketAddr::from((order.address, order.port));
-    let mut sockets = match ports::bind(rt, address) {
+    let mut sockets = match Sockets::bind(rt, address) {
         Ok(sockets) => sockets,
-        Err(error) => return Err(ServerFault::of_bind(address, &error)),
+        Err(fault) => return Err(ServerFault::of_bind(address, fault, logs)),
     };
-    let served = with_page(rt, order, roster, server, &mut sockets, output);
-    sockets.close_all();
+    sockets.wake_on(&STANDARD_OUTPUT);
+    let served = with_page(rt, order, roster, server, &mut sockets, output, logs);
+    logs.sockets = sockets.close_all();
     served
 }
 
@@ -223,19 +240,22 @@ fn with_page<O: Write>(
     server: &mut Server,
     sockets: &mut Sockets<'_, HostRuntime>,
     output: &mut StandardOutput<O>,
+    logs: &mut DeviceLogs,
 ) -> Result<(), ServerFault>
     requires works { output.old.failed ≡ false }
     requires ready { IsReady order.old (entries_of roster) server.old.hub }
-    ensures serves { OnOk result (ServesOrder order.old (entries_of roster.entry)
-        (state_of server.old.hub).railway (state_of server.old.hub).programming) }
-    ensures end { IsEnd (names_file order.old) output.new.failed result }
+    requires new { sockets.old.log.events ≡ [] }
+    ensures serves { OnOk result (ServesBy order.old (entries_of roster.entry)
+        (state_of server.old.hub).railway (state_of server.old.hub).programming
+        sockets.new.log.events logs.new.clock.readings) }
+    ensures end { IsEnd (names_file order.old) output.new.failed logs.new.faults.failed result }
 {
     if let Some(page) = order.page {
         let address = SocketAddr::from((order.address, page));
         let names = mem::replace(&mut order.hosts, Vec::new(rt.alloc()));
-        bind_page(rt, sockets, address, order.page_file.take(), names)?;
+        bind_page(rt, sockets, address, order.page_file.take(), names, logs)?;
     }
-    with_log(rt, order, roster, server, sockets, output)
+    with_log(rt, order, roster, server, sockets, output, logs)
 }
 
 /// Serves, with a queue for the lines of the log. At the end the rest of them is written.
@@ -246,20 +266,23 @@ fn with_log<O: Write>(
     server: &mut Server,
     sockets: &mut Sockets<'_, HostRuntime>,
     output: &mut StandardOutput<O>,
+    logs: &mut DeviceLogs,
 ) -> Result<(), ServerFault>
     requires works { output.old.failed ≡ false }
     requires ready { IsReady order.now (entries_of roster) server.old.hub }
-    ensures serves { OnOk result (ServesOrder order.now (entries_of roster.entry)
-        (state_of server.old.hub).railway (state_of server.old.hub).programming) }
-    ensures end { IsEnd (names_file order.now) output.new.failed result }
+    requires new { sockets.old.log.events ≡ [] }
+    ensures serves { OnOk result (ServesBy order.now (entries_of roster.entry)
+        (state_of server.old.hub).railway (state_of server.old.hub).programming
+        sockets.new.log.events logs.new.clock.readings) }
+    ensures end { IsEnd (names_file order.now) output.new.failed logs.new.faults.failed result }
 {
     let mut log = LogQueue::new(rt.alloc())?;
-    report_addresses(rt, sockets, &mut log)?;
+    report_addresses(rt, sockets, &mut log, logs)?;
     // The output notes a failed write; the lines stay queued.
     let _ = write_queued(&mut log, output, Duration::ZERO);
     let verbosity = Verbosity::of(order.track, order.quiet);
     let mut printer = Printer::new(log, roster, verbosity, server.world(), server.railway());
-    let served = serve(rt, order, server, sockets, &mut printer, output);
+    let served = serve(rt, order, server, sockets, &mut printer, output, logs);
     // A reader that accepts nothing for this long is not waited for.
     let _ = printer.write_queued(output, Duration::from_millis(LAST_WAIT_MILLIS));
     served
@@ -272,19 +295,21 @@ fn bind_page(
     address: SocketAddr,
     file: Option<FileName>,
     names: Vec<String>,
+    logs: &mut DeviceLogs,
 ) -> Result<(), ServerFault>
-    ensures { IsEnd true false result }
+    ensures log { sockets.new.log ≡ sockets.old.log }
+    ensures end { IsEnd true false logs.new.faults.failed result }
 {
     let page = read_page(rt, file)?;
-    match ports::bind_page(rt, sockets, address, page.as_slice(), names) {
+    match sockets.bind_page(address, page.as_slice(), names) {
         Ok(()) => Ok(()),
-        Err(error) => Err(ServerFault::of_bind(address, &error)),
+        Err(fault) => Err(ServerFault::of_bind(address, fault, logs)),
     }
 }
 
 /// Returns the page of this file, or that of the repository.
 fn read_page(rt: &HostRuntime, file: Option<FileName>) -> Result<Vec<u8>, ServerFault>
-    ensures { IsEnd true false result }
+    ensures { IsEnd true false false result }
 {
     let file = match file {
         Some(file) => file,
@@ -298,20 +323,21 @@ fn report_addresses(
     rt: &HostRuntime,
     sockets: &Sockets<'_, HostRuntime>,
     log: &mut LogQueue,
+    logs: &mut DeviceLogs,
 ) -> Result<(), ServerFault>
-    ensures { IsEnd false false result }
+    ensures { IsEnd false false logs.new.faults.failed result }
 {
-    let Ok((bus, page)) = sockets.addresses() else {
-        return Err(ServerFault::Run(RunFault::Network));
+    let (bus, page) = match sockets.addresses() {
+        Ok(addresses) => addresses,
+        Err(fault) => return Err(ServerFault::of_system(fault, logs)),
     };
     let page = match page {
         Some(page) => Some(reachable(rt, page)),
         None => None,
     };
-    match print_listening(log, bus, page) {
-        Ok(()) => Ok(()),
-        Err(_) => Err(ServerFault::Run(RunFault::Network)),
-    }
+    // The queue takes all bytes.
+    let _ = print_listening(log, bus, page);
+    Ok(())
 }
 
 /// Serves an order until the given number of clients have disconnected; without a number for ever,
@@ -323,18 +349,30 @@ fn serve<O: Write>(
     sockets: &mut Sockets<'_, HostRuntime>,
     printer: &mut Printer<'_>,
     output: &mut StandardOutput<O>,
+    logs: &mut DeviceLogs,
 ) -> Result<(), ServerFault>
     requires ready { IsReady order.now (entries_of printer.old.roster) server.old.hub }
     requires verbosity { printer.old.verbosity ≡ verbosity_of order.now.track order.now.quiet }
-    ensures serves { OnOk result (ServesOrder order.now (entries_of printer.old.roster)
-        (state_of server.old.hub).railway (state_of server.old.hub).programming) }
-    ensures end { IfErr result (λ fault. status_of fault ≡ 4) }
+    requires new { sockets.old.log.events ≡ [] }
+    ensures serves { OnOk result (ServesBy order.now (entries_of printer.old.roster)
+        (state_of server.old.hub).railway (state_of server.old.hub).programming
+        sockets.new.log.events logs.new.clock.readings) }
+    ensures status { IfErr result (λ fault. status_of fault ≡ 4) }
+    ensures recorded { IfErr result (λ _. logs.new.faults.failed ≡ true) }
 {
-    let Ok(watch) = Stopwatch::new(rt) else {
-        return Err(ServerFault::Run(RunFault::Network));
+    let mut clock = match Ticking::new(rt) {
+        Ok(clock) => clock,
+        Err(fault) => return Err(ServerFault::of_system(fault, logs)),
     };
-    let mut clock = Ticking { clock: rt, watch };
-    serve_on(order, server, sockets, &mut clock, printer, output)
+    let served = serve_on(order, server, sockets, &mut clock, printer, output);
+    logs.clock = clock.into_log();
+    match served {
+        Ok(()) => Ok(()),
+        Err(Stop::Transport(fault)) | Err(Stop::Clock(fault)) => {
+            Err(ServerFault::of_system(fault, logs))
+        }
+        Err(Stop::Observer(never)) | Err(Stop::AfterRound(never)) => match never {},
+    }
 }
 
 /// Serves an order by these devices, whatever they are: that a run was one of the order is promised of
@@ -346,27 +384,20 @@ fn serve_on<'p, W: Transport, C: TimeSource, A: AfterRound<W, Printer<'p>>>(
     clock: &mut C,
     printer: &mut Printer<'p>,
     after_round: &mut A,
-) -> Result<(), ServerFault>
-where
-    W::Fault: Drop,
-    C::Fault: Drop,
-    A::Fault: Drop,
-    requires begun { A.begun after_round.old ≡ None }
+) -> Result<(), Stop<W::Fault, C::Fault, Infallible, A::Fault>>
+    // What follows a round knows the beginning of no other run.
+    requires begun { IsBeginning (A.begun after_round.old)
+        (run_snapshot (W.log transport.old) (C.readings clock.old) None
+        (A.shown after_round.old) server.old.hub) }
     requires ready { IsReady order.now (entries_of printer.old.roster) server.old.hub }
     requires verbosity { printer.old.verbosity ≡ verbosity_of order.now.track order.now.quiet }
     ensures serves { OnOk result (ServesLogged order.now (entries_of printer.old.roster)
         (state_of server.old.hub).railway (state_of server.old.hub).programming
         (logs_of (W.log transport.old) (C.readings clock.old) (A.shown after_round.old))
         (logs_of (W.log transport.new) (C.readings clock.new) (A.shown after_round.new))) }
-    ensures end { IfErr result (λ fault. status_of fault ≡ 4) }
 {
     let most = most_clients(order.clients);
-    match server.run(transport, clock, printer, after_round, most) {
-        Ok(()) => Ok(()),
-        Err(Stop::Transport(_)) | Err(Stop::Clock(_)) => Err(ServerFault::Run(RunFault::Network)),
-        Err(Stop::Observer(never)) => match never {},
-        Err(Stop::AfterRound(_)) => Err(ServerFault::Output),
-    }
+    server.run(transport, clock, printer, after_round, most)
 }
 
 /// Returns what turns follow: messages, if the number after each is given, else time at this rate.

@@ -1,16 +1,17 @@
 //! The faults of a run that ends with a status other than 0, and their text.
-ghost use Rattle.std.specs.Prelude.{◌≡◌, ◌<◌, ◌≤◌, false, true};
+ghost use Rattle.std.specs.Prelude.{◌≡◌, ◌==◌, ◌<◌, ◌≤◌, false, true};
 ghost use Rattle.console.specs.declared.fault.RunFault.TheVariants.{NoMemory};
 ghost use Rattle.lbserver.specs.declared.fault.ServerFault.TheVariants.{Order, Output, Run};
 ghost use Rattle.lbserver.specs.Execution.{is_of_file, status_of};
 
+use crate::device_logs::DeviceLogs;
 use crate::roster_line::{NAME, write_roster_fault};
 use command_line::{FileName, OrderFault, open_error_words};
 use console::{RunFault, WriteError, report_as};
 use railway_plan::LocatedFault;
 use roster::{FaultDetails, RosterFault};
+use sockets::SystemFault;
 use std::alloc::AllocError;
-use std::io;
 use std::io::{ErrorKind, Write};
 use std::net::SocketAddr;
 
@@ -47,20 +48,37 @@ pub(crate) enum ServerFault {
 }
 
 impl ServerFault {
-    /// Returns the fault of an address and port that could not be bound for this error.
-    pub(crate) fn of_bind(address: SocketAddr, error: &io::Error) -> ServerFault
+    /// Returns the fault of an address and port that could not be bound, and records it.
+    pub(crate) fn of_bind(
+        address: SocketAddr,
+        fault: SystemFault,
+        logs: &mut DeviceLogs,
+    ) -> ServerFault
         ensures file { is_of_file result ≡ false }
         ensures status { 1 < status_of result }
+        ensures recorded { logs.new.faults.failed ≡ true }
     {
-        match error.kind() {
+        let why = fault.kind();
+        logs.record_fault(fault);
+        match why {
             ErrorKind::OutOfMemory => ServerFault::Run(RunFault::NoMemory),
             why => ServerFault::Listen { address, why },
         }
     }
 
+    /// Returns the fault of the network or the clock for a call of the system that failed, and records it.
+    pub(crate) fn of_system(fault: SystemFault, logs: &mut DeviceLogs) -> ServerFault
+        ensures status { status_of result ≡ 4 }
+        ensures recorded { logs.new.faults.failed ≡ true }
+    {
+        logs.record_fault(fault);
+        ServerFault::Run(RunFault::Network)
+    }
+
     /// Returns the fault of a file that could not be opened for this reason.
     pub(crate) fn of_opening(file: FileName, why: ErrorKind) -> ServerFault
         ensures status { 1 < status_of result }
+        ensures not_network { (status_of result == 4) ≡ false }
     {
         match why {
             ErrorKind::OutOfMemory => ServerFault::Run(RunFault::NoMemory),

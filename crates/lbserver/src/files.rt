@@ -19,7 +19,7 @@ pub(crate) fn read_file(
 ) -> Result<Vec<u8>, ServerFault>
     requires { most + 1 < 2 ^ 32 }
     ensures most { IfOk result (λ bytes. length bytes.items ≤ most) }
-    ensures end { IsEnd true false result }
+    ensures end { IsEnd true false false result }
 {
     let mut input = match open_file(rt, &file) {
         Ok(input) => input,

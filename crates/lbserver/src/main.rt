@@ -3,11 +3,11 @@
 
 mod after_round;
 mod answering;
+mod device_logs;
 mod executing;
 mod fault;
 mod files;
 mod plan_file;
-mod ports;
 mod programmer_file;
 mod reach;
 mod roster_file;
@@ -16,6 +16,7 @@ mod standard_output;
 mod terminal_writer;
 
 use command_line::{read_words, texts};
+use device_logs::DeviceLogs;
 use executing::execute;
 use fault::ServerFault;
 use server_orders::not_utf8_server_text;
@@ -37,5 +38,11 @@ fn run_words(rt: &HostRuntime) -> Result<u8, ServerFault> {
     let words = read_words(rt.alloc(), rt, |alloc| not_utf8_server_text(alloc))?;
     let texts = texts(rt.alloc(), words.as_slice())?;
     let mut output = StandardOutput::new(rt, TerminalWriter::new(rt, io::writer(rt)), rt.stderr())?;
-    Ok(execute(rt, texts.as_slice(), &mut output, &mut rt.stderr()))
+    Ok(execute(
+        rt,
+        texts.as_slice(),
+        &mut output,
+        &mut rt.stderr(),
+        &mut DeviceLogs::new(),
+    ))
 }

@@ -1,5 +1,5 @@
 //! Reading a track plan from its file.
-ghost use Rattle.std.specs.Prelude.{◌≡◌, ◌≢◌, ◌<◌, IfErr, IfOk, List, is_some, false, true};
+ghost use Rattle.std.specs.Prelude.{◌≡◌, ◌≢◌, ◌==◌, ◌<◌, IfErr, IfOk, List, is_some, false, true};
 ghost use Rattle.roster.specs.Decoders.{entries_of};
 ghost use Rattle.roster.specs.Entry.{Entry};
 ghost use Rattle.lbserver.specs.Execution.{IsRailwayOf, IsEnd, status_of};
@@ -31,7 +31,7 @@ pub(crate) fn read_railway(
     roster: Option<&Roster>,
 ) -> Result<Option<Railway>, ServerFault>
     ensures railway { IfOk result (IsRailwayOf file (entries_of roster.entry)) }
-    ensures end { IsEnd (is_some file) false result }
+    ensures end { IsEnd (is_some file) false false result }
 {
     let (Some(file), Some(roster)) = (file, roster) else {
         return Ok(None);
@@ -50,7 +50,7 @@ fn railway_of(
 ) -> Result<Railway, ServerFault>
     ensures railway { IfOk result (IsRailwayIn roster.now text.now) }
     ensures fault { IfErr result (HasPlanFault file roster.now text.now) }
-    ensures end { IsEnd true false result }
+    ensures end { IsEnd true false false result }
 {
     match railway_plan::read_railway(alloc, text, roster) {
         Ok(railway) => Ok(railway),
@@ -64,6 +64,7 @@ fn fault_of(alloc: Global, file: FileName, text: &[u8], fault: PlanTextFault) ->
         → (fault.why ≢ NoMemory → IsFaultIn entries text.now fault)
         → HasPlanFault file entries text.now result }
     ensures status { 1 < status_of result }
+    ensures not_network { (status_of result == 4) ≡ false }
 {
     if let railway_plan::Why::NoMemory = fault.why {
         return ServerFault::Run(RunFault::NoMemory);

@@ -32,7 +32,7 @@ pub(crate) fn read_programming(
     file: Option<FileName>,
 ) -> Result<Option<ProgrammingBench>, ServerFault>
     ensures programming { IfOk result (λ programming. IsProgrammingOf file programming) }
-    ensures end { IsEnd (is_some file) false result }
+    ensures end { IsEnd (is_some file) false false result }
 {
     let Some(file) = file else {
         return Ok(None);
@@ -49,7 +49,7 @@ fn programming_of(
     text: &[u8],
 ) -> Result<ProgrammingBench, ServerFault>
     ensures programming { IfOk result (λ bench. IsProgrammingIn text.now bench) }
-    ensures end { IsEnd true false result }
+    ensures end { IsEnd true false false result }
 {
     let roster = roster_of(alloc, file, text)?;
     match read_toml(alloc, text) {

@@ -1,5 +1,5 @@
 //! Reading a roster from its file.
-ghost use Rattle.std.specs.Prelude.{◌≡◌, ◌≢◌, ◌<◌, Ok, Err, IfErr, IfOk, is_some, false, true};
+ghost use Rattle.std.specs.Prelude.{◌≡◌, ◌≢◌, ◌==◌, ◌<◌, Ok, Err, IfErr, IfOk, is_some, false, true};
 ghost use Rattle.console.specs.Files.{IsRosterOf};
 ghost use Rattle.roster.specs.Format.{roster_in};
 ghost use Rattle.roster.specs.declared.fault.Why.TheVariants.{NoMemory};
@@ -24,7 +24,7 @@ pub(crate) fn read_roster(
     file: Option<FileName>,
 ) -> Result<Option<Roster>, ServerFault>
     ensures roster { IfOk result (λ roster. IsRosterOf file roster) }
-    ensures end { IsEnd (is_some file) false result }
+    ensures end { IsEnd (is_some file) false false result }
 {
     let Some(file) = file else {
         return Ok(None);
@@ -38,7 +38,7 @@ pub(crate) fn read_roster(
 pub(crate) fn roster_of(alloc: Global, file: FileName, text: &[u8]) -> Result<Roster, ServerFault>
     ensures roster { IfOk result (λ roster. roster_in text.now ≡ Ok roster) }
     ensures fault { IfErr result (HasFault file text.now) }
-    ensures end { IsEnd true false result }
+    ensures end { IsEnd true false false result }
 {
     match roster::read(alloc, text) {
         Ok(roster) => Ok(roster),
@@ -51,6 +51,7 @@ fn fault_of(alloc: Global, file: FileName, text: &[u8], fault: RosterFault) -> S
     requires { fault.why ≢ NoMemory → roster_in text.now ≡ Err fault }
     ensures fault { HasFault file text.now result }
     ensures status { 1 < status_of result }
+    ensures not_network { (status_of result == 4) ≡ false }
 {
     if let roster::Why::NoMemory = fault.why {
         return ServerFault::Run(RunFault::NoMemory);

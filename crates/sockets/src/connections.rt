@@ -1,5 +1,5 @@
 //! The ports of a server, and the streams of up to eight clients, without a clock.
-ghost use Rattle.std.specs.Prelude.{◌≡◌, ◌<◌, length};
+ghost use Rattle.std.specs.Prelude.{◌≡◌, ◌<◌, None, length};
 ghost use Rattle.bus_server.specs.TransportEvents.{IsWithin};
 ghost use Rattle.bus_server.specs.declared.transport.IoOutcome.TheVariants.{Closed};
 
@@ -12,6 +12,7 @@ use loconet_tcp::{Text, push_server_full};
 use mio::net::{TcpListener, TcpStream};
 use mio::unix::SourceFd;
 use mio::{Events, Interest, Poll, Registry, Token};
+use pages::Clients;
 use std::alloc::Global;
 use std::io;
 use std::io::{ErrorKind, Write};
@@ -254,6 +255,31 @@ impl Connections {
         requires { client < 8 }
     {
         self.clients[usize::from(client)] = None;
+    }
+}
+
+impl Clients for Connections {
+    ghost page_log = { λ _. None };
+
+    fn take_just_opened(&mut self, place: usize) -> bool {
+        match self.page_client(place) {
+            Some(page_client) => page_client.take_just_opened(),
+            None => false,
+        }
+    }
+
+    fn is_writable(&mut self, place: usize) -> bool {
+        match self.page_client(place) {
+            Some(page_client) => page_client.is_writable(),
+            None => false,
+        }
+    }
+
+    fn send(&mut self, place: usize, message: &str) -> bool {
+        match self.page_client(place) {
+            Some(page_client) => page_client.send(message),
+            None => false,
+        }
     }
 }
 

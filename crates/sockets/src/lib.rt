@@ -5,14 +5,17 @@
 //! stream. [`Stopwatch`] measures the time since the start.
 //!
 //! ```ignore
-//! let mut sockets = Sockets::new(alloc, clock, poll, listener)?;
-//! sockets.serve_page(alloc, page_listener, page, names)?;
+//! let mut sockets = Sockets::bind(rt, address, &mut log)?;
+//! sockets.bind_page(page_address, page, names)?;
 //! server.run(&mut sockets, ..)?;
+//! log = sockets.close_all();
 //! ```
 //!
-//! No port is opened here: a program passes the listeners, and a clock to read.
+//! A [`CallLog`] says in contracts what the calls of sockets and of their clock returned, and whether
+//! one of the system failed.
 #![tactic(auto)]
 
+mod call_log;
 mod client;
 mod connections;
 mod http_connection;
@@ -20,11 +23,14 @@ mod http_server;
 mod silence;
 mod sockets;
 mod stopwatch;
+mod system_fault;
 mod ticking;
 mod wait_time;
 
+pub use call_log::CallLog;
 pub use http_connection::{HttpConnection, Progress, Stream, is_retryable};
 pub use sockets::Sockets;
 pub use stopwatch::Stopwatch;
+pub use system_fault::SystemFault;
 pub use ticking::Ticking;
 pub use wait_time::{duration_of, micros_between, micros_of, sooner};

@@ -13,6 +13,6 @@ returns-clause-serves g c =
     (λ served. (
       roster,
       subst (λ file. IsRosterOf file roster) c.take.ensures.value c.in_ok-roster.ensures.roster,
-      subst (λ (entries : List Entry). ServesPlan c.args.order.now entries) (entries_copied c.as_ref.result ∙ ap entries_in c.as_ref.ensures.value) served,
+      subst (λ (entries : List Entry). ServesPlan c.args.order.now entries c.with_plan.new.logs) (entries_copied c.as_ref.result ∙ ap entries_in c.as_ref.ensures.value) served,
     ))
     c.with_plan.ensures.serves

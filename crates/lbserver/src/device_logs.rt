@@ -1,0 +1,34 @@
+//! What the devices of a run returned, which only proofs see.
+ghost use Rattle.std.specs.Prelude.{◌≡◌, true};
+
+use sockets::{CallLog, SystemFault};
+
+/// The logs of the sockets and the clock of a run, and whether a call of the system has failed. They
+/// take no memory.
+#[derive(Drop)]
+pub(crate) struct DeviceLogs {
+    /// What the calls of the sockets returned, until they were closed.
+    pub(crate) sockets: CallLog,
+    /// What the readings of the clock returned.
+    pub(crate) clock: CallLog,
+    /// Whether a call of the system has failed.
+    pub(crate) faults: CallLog,
+}
+
+impl DeviceLogs {
+    /// Creates the logs of devices that were not called yet.
+    pub(crate) fn new() -> DeviceLogs {
+        DeviceLogs {
+            sockets: CallLog::new(),
+            clock: CallLog::new(),
+            faults: CallLog::new(),
+        }
+    }
+
+    /// Records that a call of the system failed.
+    pub(crate) fn record_fault(&mut self, fault: SystemFault)
+        ensures { self.new.faults.failed ≡ true }
+    {
+        self.faults.record_fault(fault);
+    }
+}
