@@ -1,5 +1,5 @@
 //! What the devices of a run returned, which only proofs see.
-ghost use Rattle.std.specs.Prelude.{◌≡◌, true};
+ghost use Rattle.std.specs.Prelude.{◌≡◌, false, true};
 
 use sockets::{CallLog, SystemFault};
 
@@ -11,13 +11,15 @@ pub(crate) struct DeviceLogs {
     pub(crate) sockets: CallLog,
     /// What the readings of the clock returned.
     pub(crate) clock: CallLog,
-    /// Whether a call of the system has failed.
+    /// Whether a call of the system has failed. Only a fault of the crate `sockets` says so.
     pub(crate) faults: CallLog,
 }
 
 impl DeviceLogs {
     /// Creates the logs of devices that were not called yet.
-    pub(crate) fn new() -> DeviceLogs {
+    pub(crate) fn new() -> DeviceLogs
+        ensures { result.faults.failed ≡ false }
+    {
         DeviceLogs {
             sockets: CallLog::new(),
             clock: CallLog::new(),
