@@ -25,6 +25,17 @@ const isOver = (one, other) => one.left < other.right - 1 && other.left < one.ri
   && other.top < one.bottom - 1;
 return boxes.flatMap(([name, box], at) => boxes.slice(at + 1).filter(([, other]) => isOver(box, other)).map(([one]) => `${{name}}, ${{one}}`));
 """
+# Whether the labels and the circles of the drawing are seen whole.
+WHOLE = f"""
+const box = document.querySelector('#drawing').getBoundingClientRect();
+return [...{SHOWN}, ...document.querySelectorAll('#drawing .number')].map((one) => one.getBoundingClientRect()).every((one) =>
+  one.top >= box.top && one.bottom <= box.bottom && one.left >= box.left && one.right <= box.right);
+"""
+# Whether the first row of decoders is seen, with its buttons, which are 44 pixels high.
+SEEN = """
+const [nodes, board] = ['#nodes', '#board'].map((path) => document.querySelector(path).getBoundingClientRect());
+return Math.min(nodes.bottom, board.bottom) - nodes.top >= 44;
+"""
 COLOUR = "return getComputedStyle(document.querySelector(arguments[0]))[arguments[1]]"
 ALARM = "rgb(255, 143, 135)"  # red, on the dark board
 
@@ -111,6 +122,25 @@ def try_sizes(browser, path, port, address):
             if width >= 900:
                 check("also when a locomotive is taken", browser.run(IN_SIGHT, "#drawing svg"))
             browser.run("page.throttles.forEach((view) => view.remove())")
+        browser.develop("Emulation.clearDeviceMetricsOverride", {})
+
+
+def try_low_windows(browser, path, port, address):
+    """In a low window nothing of the plan is cut off, and no part vanishes, whatever is open."""
+    with Server(path, "--page", str(port), *OVAL, "examples/oval.toml", "--programmer", "examples/oval-roster.toml"):
+        browser.go(address)
+        browser.until("#connection", "Connected")
+        browser.until_true("return document.querySelector('#drawing svg') !== null")
+        browser.press("Drive")
+        browser.until(".throttle", "in use")
+        for width, height in ((900, 600), (1000, 700), (1280, 720)):
+            browser.size(width, height)
+            check(f"at {width:,} by {height} pixels the plan is whole", browser.until_is(WHOLE, True))
+            check("decoders are seen", browser.until_is(SEEN, True))
+            browser.run("document.querySelectorAll('#folds details').forEach((one) => { one.open = true; })")
+            check("throttles have room", browser.until_is("return document.querySelector('#list').clientHeight >= 250", True))
+            check("the page itself does not scroll", browser.run("return document.documentElement.scrollHeight"), height)
+            browser.run("document.querySelectorAll('#folds details').forEach((one) => { one.open = false; })")
         browser.develop("Emulation.clearDeviceMetricsOverride", {})
 
 
@@ -242,7 +272,7 @@ def try_turnouts(browser, path, port, address):
 
 def try_plans(browser, path, port, address):
     """All of these, by servers of their own."""
-    for part in (try_derailed, try_sizes, try_turnouts, try_many_blocks, try_lists):
+    for part in (try_derailed, try_sizes, try_low_windows, try_turnouts, try_many_blocks, try_lists):
         part(browser, path, port, address)
     browser.run("sessionStorage.clear()")
     browser.anew()
