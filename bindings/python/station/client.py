@@ -291,6 +291,8 @@ class Client(Throttle):
 
         `lbserver` runs with `--plan`.
         """
+        if not isinstance(on, bool):
+            raise ValueError(f"on is {on!r}, and has to be True or False")
         self._fail(f"sensor {in_range(number, 1, LAST_SENSOR, 'a sensor')} {'on' if on else 'off'}")
 
     def fail_turnout(self, switch: int) -> None:
@@ -301,7 +303,7 @@ class Client(Throttle):
         self._fail(f"turnout {in_range(switch, 1, LAST_SWITCH, 'a switch')}")
 
     def end_failures(self) -> None:
-        """Ends all failures, also that of a programming track. A turnout stays as it lies until it is asked again."""
+        """Ends all failures, also that of a programming track. A turnout stays as it lies until an output comes on."""
         self._fail("none")
 
     def _fail(self, words: str) -> None:

@@ -502,6 +502,8 @@ class TestClient(unittest.TestCase):
                 for sensor in (0, 4097):
                     with self.assertRaisesRegex(ValueError, "a sensor is"):
                         client.fail_sensor(sensor)
+                with self.assertRaisesRegex(ValueError, "on is 'off'"):
+                    client.fail_sensor(3, "off")
                 for switch in (0, 2041):
                     with self.assertRaisesRegex(ValueError, "a switch is"):
                         client.fail_turnout(switch)
