@@ -33,13 +33,13 @@ use Rattle.decoder_cv.specs.Answering.{AgreesInSteps, answers_to}
 use Rattle.decoder_cv.specs.Settings.{Settings}
 use Rattle.decoder_node.specs.declared.node.NodeSpec.TheVariants.{Loco as LocoSpec}
 use Rattle.decoder_node.specs.Decoder.{LocoDecoder}
-use Rattle.decoder_node.specs.Obey.{runs}
+use Rattle.decoder_node.specs.Obey.{obey, runs}
 use Rattle.decoder_node.specs.declared.running.Running.{Running}
 use Rattle.layout_core.specs.declared.event.Event.{Event}
 use Rattle.layout_core.specs.declared.event.Event.TheVariants.{Byte, Turn, Noise}
 use Rattle.layout_core.specs.declared.node.Node.{Node}
 use Rattle.layout_core.specs.declared.node.Node.TheVariants.{Loco, Accessory}
-use Rattle.layout_core.specs.Cycle.{MissesNone, StandsIn, IsCycleOf, RunsAfterNoise, RunsAsWanted}
+use Rattle.layout_core.specs.Cycle.{KeepsAsking, MissesNone, StandsIn, IsCycleOf, RunsAfterNoise, RunsAsWanted, RunsOnAsWanted}
 use Rattle.layout_core.specs.Events.{NoNoise, calls_in, calls_of}
 use Rattle.layout_core.specs.Heard.{Sound, Whole, Single, HearsAll, heard, packets_among, sounds_at, sounds_in, sounds_of_turn}
 use Rattle.layout_core.specs.Hearing.{Obeyed}
@@ -453,3 +453,112 @@ runs_after_noise laws start events old new desk has before cycle i loco none par
     let cut = heard_apart start events before cycle old new has parts i (Loco loco) none below is in
     over_longer_cycle laws i slot a e loco.settings hears.answers hears.steps (after_events start before) (known_after_all (known_of start) (calls_in before)) (follows_events laws start before) (desk_after_events laws start before desk) cycle full more hears.misses hears.quiet
     cut.0 (slice_index_or new i none) (all_keep (sounds_in i start before) (Loco loco) cut.0 cut.1) cut.2
+
+-- ---- the headline holds on
+
+misses_front : (i : ℕ) (events later : List Event) → MissesNone i (events ++ later) → MissesNone i events
+misses_front i [] later misses = tt
+misses_front i (Byte line byte ∷ events) later misses = misses_front i events later misses
+misses_front i (Turn missed ∷ events) later misses = (misses.0, misses_front i events later misses.1)
+misses_front i (Noise node half ∷ events) later misses = misses_front i events later misses
+
+quiet_front : (i : ℕ) (events later : List Event) → NoNoise i (events ++ later) → NoNoise i events
+quiet_front i [] later quiet = tt
+quiet_front i (Byte line byte ∷ events) later quiet = quiet_front i events later quiet
+quiet_front i (Turn missed ∷ events) later quiet = quiet_front i events later quiet
+quiet_front i (Noise node half ∷ events) later quiet = (quiet.0, quiet_front i events later quiet.1)
+
+runs-append : (cv : Settings) (r : Running) (these those : List (List ℕ)) → runs cv r (these ++ those) ≡ runs cv (runs cv r these) those
+runs-append cv r [] those = refl
+runs-append cv r (packet ∷ these) those = runs-append cv (obey cv r packet) these those
+
+-- harmless packets leave a decoder that runs as its entry wants
+stays_settled : (laws : Laws) (cv : Settings) (a : ℕ) (e : Entry) → IsAskedBy cv a e → (packets : List (List ℕ)) → AllByRecursion (λ packet. IsPacketOf a e packet ⊎ LeavesAsItIs cv packet) packets
+    → runs cv (wanted e cv.reversed) packets ≡ wanted e cv.reversed
+stays_settled laws cv a e asked packets harmless =
+    let own : List (List ℕ) = entry_packet kind.Speed a e ∷ entry_packet kind.GroupOne a e ∷ entry_packet kind.GroupTwo a e ∷ entry_packet kind.GroupThree a e ∷ [] in
+    let start : Running = wanted e cv.reversed in
+    ap (λ (r : Running). runs cv r packets) (sym (laws.settling cv a e start own asked (tells own [] (behind [] tt) refl)))
+    ∙ sym (runs-append cv start own packets)
+    ∙ laws.settling cv a e start (own ++ packets) asked (tells (own ++ packets) packets (behind packets harmless) refl)
+  where
+    -- the four packets of the entry, and then these
+    behind : (rest : List (List ℕ)) → AllByRecursion (λ packet. IsPacketOf a e packet ⊎ LeavesAsItIs cv packet) rest
+        → AllByRecursion (λ packet. IsPacketOf a e packet ⊎ LeavesAsItIs cv packet) (entry_packet kind.Speed a e ∷ entry_packet kind.GroupOne a e ∷ entry_packet kind.GroupTwo a e ∷ entry_packet kind.GroupThree a e ∷ rest)
+    behind rest each = (inl (of_kind kind.Speed a e), (inl (of_kind kind.GroupOne a e), (inl (of_kind kind.GroupTwo a e), (inl (of_kind kind.GroupThree a e), each))))
+
+    tells : (all rest : List (List ℕ)) → AllByRecursion (λ packet. IsPacketOf a e packet ⊎ LeavesAsItIs cv packet) all
+        → all ≡ entry_packet kind.Speed a e ∷ entry_packet kind.GroupOne a e ∷ entry_packet kind.GroupTwo a e ∷ entry_packet kind.GroupThree a e ∷ rest → TellsAll cv a e all
+    tells all rest each is = record {
+      only = All-from_recursion (λ packet. IsPacketOf a e packet ⊎ LeavesAsItIs cv packet) all each;
+      has_speed = subst (λ (packets : List (List ℕ)). Contains packets (entry_packet kind.Speed a e)) (sym is) (0, omega arith, refl);
+      has_group_one = subst (λ (packets : List (List ℕ)). Contains packets (entry_packet kind.GroupOne a e)) (sym is) (1, omega arith, refl);
+      has_group_two = subst (λ (packets : List (List ℕ)). Contains packets (entry_packet kind.GroupTwo a e)) (sym is) (2, omega arith, refl);
+      has_group_three = subst (λ (packets : List (List ℕ)). Contains packets (entry_packet kind.GroupThree a e)) (sym is) (3, omega arith, refl);
+    }
+
+-- so it stays, while its slot says the same
+settled_on : (laws : Laws) (cv : Settings) (i slot a : ℕ) (e : Entry) → IsTrue (answers_to cv a) → AgreesInSteps cv e.kind → (seen : Seen) (known : ThrottleView) → Follows seen known → HasDesk seen.powered → (later : List Event)
+    → KeepsAsking slot a e known (calls_in later) → MissesNone i later → runs cv (wanted e cv.reversed) (heard i seen later) ≡ wanted e cv.reversed
+settled_on laws cv i slot a e mine steps seen known follows desk later keeps misses =
+    let calls : List Call = calls_in later in
+    let desks : AtEach HasDesk seen calls = at_each HasDesk seen (known_of seen) calls (laws.reported seen) (laws.desks (known_of seen) calls desk) in
+    let live : AtEach (IsLive slot) seen calls = at_each (IsLive slot) seen known calls follows keeps.live in
+    let stands : AtEach (StandsIn slot a e) seen calls = at_each (StandsIn slot a e) seen known calls follows keeps.stands in
+    let row : Row = row_of seen.powered.desk slot in
+    let here : StandsIn slot a e seen.powered = first_moment (StandsIn slot a e) seen calls stands in
+    let held : is_held row.state ≡ true = driven-held row.state (first_moment (IsLive slot) seen calls live).refreshed in
+    let legal : IsRow row = (laws.rows seen.powered.desk desk).legal slot in
+    let first : Entry = entry_of row in
+    let as_first : (p : PoweredDesk) → StandsIn slot a e p → StandsIn slot a first p =
+    λ p there. record { address = there.address; kind = there.kind ∙ sym here.kind; spd = there.spd ∙ sym here.spd; dirf = there.dirf ∙ sym here.dirf; snd = there.snd ∙ sym here.snd; more = there.more ∙ sym here.more } in
+    let same : wanted first cv.reversed ≡ wanted e cv.reversed = same_wanted cv.reversed first e (record { kind = here.kind; spd = here.spd; dirf = here.dirf; snd = here.snd; more = here.more }) in
+    let asked : IsAskedBy cv a first = record { address = subst (λ (b : ℕ). IsAddress b) here.address (legal.held held); entry = entry_in row legal held; answers = mine; steps = subst (AgreesInSteps cv) (sym here.kind) steps } in
+    ap (λ (r : Running). runs cv r (heard i seen later)) (sym same)
+    ∙ stays_settled laws cv a first asked (heard i seen later)
+    (all_harmless laws cv i slot a first mine seen later desks (each_moment (StandsIn slot a e) (StandsIn slot a first) as_first seen calls stands) live misses)
+    ∙ same
+
+some_running : (r s : Running) → Some r ≡ Some s → r ≡ s
+some_running r s h = cc
+
+over_later : (laws : Laws) (i slot a : ℕ) (e : Entry) (cv : Settings) → IsTrue (answers_to cv a) → AgreesInSteps cv e.kind → (seen : Seen) (known : ThrottleView) → Follows seen known → HasDesk seen.powered → (later : List Event)
+    → KeepsAsking slot a e known (calls_in later) → MissesNone i later → NoNoise i later → (old new : Node) → spec_of old ≡ LocoSpec cv → running_of old ≡ Some (wanted e cv.reversed) → IsBetween old → HearsAll (sounds_in i seen later) old new
+    → running_of new ≡ Some (wanted e cv.reversed)
+over_later laws i slot a e cv mine steps seen known follows desk later keeps misses quiet old new made runs_so between hears =
+    let is = is_loco old cv made in
+    let loco : LocoDecoder = is.0 in
+    let done = whole_obeyed (sounds_in i seen later) old new (sounds_are_whole i seen later quiet) hears between in
+    let obeyed : Obeyed (heard i seen later) (Loco loco) new = subst (λ (node : Node). Obeyed (heard i seen later) node new) is.1 done.0 in
+    let state : loco.state ≡ wanted e cv.reversed = some_running loco.state (wanted e cv.reversed) (sym (ap running_of is.1) ∙ runs_so) in
+    running_from (heard i seen later) loco new obeyed
+    ∙ ap (λ (c : Settings). Some (runs c loco.state (heard i seen later))) is.2
+    ∙ ap (λ (r : Running). Some (runs cv r (heard i seen later))) state
+    ∙ ap Some (settled_on laws cv i slot a e mine steps seen known follows desk later keeps misses)
+
+pub runs_on_as_wanted : Laws → (start : Seen) (events : List Event) (old new : List Node) → HasDesk start.powered → HaveHeard start events old new → RunsOnAsWanted (known_of start) events old new
+runs_on_as_wanted laws start events old new desk has before heard i loco none parts below is cycle later slot a e split between quiet hears full keeps =
+    let at : Seen = after_events start before in
+    let known : ThrottleView = known_after_all (known_of start) (calls_in before) in
+    let there : Seen = after_events at cycle in
+    let known_there : ThrottleView = known_after_all known (calls_in cycle) in
+    let follows : Follows at known = follows_events laws start before in
+    let follows_there : Follows there known_there = subst (λ (s : Seen). Follows s known_there) (sym (after_is at cycle)) (follows_behind at known (calls_in cycle) follows) in
+    let desk_at : HasDesk at.powered = desk_after_events laws start before desk in
+    let desk_there : HasDesk there.powered = desk_after_events laws at cycle desk_at in
+    let cut = heard_apart start events before heard old new has parts i (Loco loco) none below is in
+    let so_far = whole_obeyed (sounds_in i start before) (Loco loco) cut.0 (sounds_are_whole i start before quiet) cut.1 between in
+    let sounds : sounds_in i at heard ≡ sounds_in i at cycle ++ sounds_in i there later = ap (sounds_in i at) split ∙ sounds-append i at cycle later in
+    let parted = all_split (sounds_in i at cycle) (sounds_in i there later) cut.0 (slice_index_or new i none) (subst (λ (ss : List Sound). HearsAll ss cut.0 (slice_index_or new i none)) sounds cut.2) in
+    let misses : MissesNone i (cycle ++ later) = subst (MissesNone i) split hears.misses in
+    let still : NoNoise i (cycle ++ later) = subst (NoNoise i) split hears.quiet in
+    let calls : calls_in heard ≡ calls_in cycle ++ calls_in later = ap calls_in split ∙ calls-append cycle later in
+    let made = all_keep (sounds_in i start before) (Loco loco) cut.0 cut.1 in
+    let settles = over_cycle laws i slot a e loco.settings hears.answers hears.steps at known follows desk_at cycle full (misses_front i cycle later misses) (quiet_front i cycle later still) cut.0 parted.0 made so_far.1 parted.1 in
+    over_later laws i slot a e loco.settings hears.answers hears.steps there known_there follows_there desk_there later
+    (record {
+      live = moments_behind (IsLive slot) known (calls_in cycle) (calls_in later) (subst (AtEveryMoment (IsLive slot) known) calls keeps.live);
+      stands = moments_behind (StandsIn slot a e) known (calls_in cycle) (calls_in later) (subst (AtEveryMoment (StandsIn slot a e) known) calls keeps.stands);
+    })
+    (misses_behind i cycle later misses) (quiet_behind i cycle later still) parted.0 (slice_index_or new i none)
+    (all_keep (sounds_in i at cycle) cut.0 parted.0 parted.1 ∙ made) settles.0 settles.1 parted.2

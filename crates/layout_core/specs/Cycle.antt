@@ -7,7 +7,7 @@ use Rattle.slot_table.specs.Entry.{Entry, IsSlot}
 use Rattle.slot_table.specs.Reading.{row_of}
 use Rattle.station_core.specs.declared.call.Call.{Call}
 use Rattle.station_core.specs.ThrottleView.{ThrottleView, known_after_all}
-use Rattle.station_core.specs.Moments.{AtEveryMoment, IsFullCycle, slots_refreshed, turns_in}
+use Rattle.station_core.specs.Moments.{AtEveryMoment, IsFullCycle, IsLive, slots_refreshed, turns_in}
 use Rattle.station_core.specs.Powered.{PoweredDesk}
 use Rattle.decoder_cv.specs.Answering.{answers_to, AgreesInSteps}
 use Rattle.decoder_node.specs.Decoder.{LocoDecoder, IsBetween as IsBetweenPackets}
@@ -84,3 +84,21 @@ RunsAfterNoise start = ForEachLoco (λ before cycle i loco node.
     → IsCycleOf slot a e (known_after_all start (calls_in before)) (calls_in cycle)
     → 4 * kinds * slots_refreshed (known_after_all start (calls_in before)) (calls_in cycle) + 1 ≤ turns_in (calls_in cycle)
     → (running_of node ≡ Some (wanted e loco.settings.reversed)) × IsBetween node)
+
+-- At every moment of the calls power runs, and the slot is refreshed and says the same.
+pub record KeepsAsking (slot a : ℕ) (e : Entry) (known : ThrottleView) (calls : List Call) : Type 0 where
+  pub live : AtEveryMoment (IsLive slot) known calls
+  pub stands : AtEveryMoment (StandsIn slot a e) known calls
+
+-- The headline holds on: a locomotive that hears a cycle, and then everything for as long as its slot
+-- says the same, runs as the entry asks, however many other slots are refreshed then.
+abbrev pub RunsOnAsWanted : ThrottleView → List Event → (old new : List Node) → Type 0
+RunsOnAsWanted start = ForEachLoco (λ before heard i loco node.
+    (cycle later : List Event) (slot a : ℕ) (e : Entry)
+    → heard ≡ cycle ++ later
+    → IsBetweenPackets loco
+    → NoNoise i before
+    → HearsCycle i a e loco heard
+    → IsCycleOf slot a e (known_after_all start (calls_in before)) (calls_in cycle)
+    → KeepsAsking slot a e (known_after_all start (calls_in before)) (calls_in heard)
+    → running_of node ≡ Some (wanted e loco.settings.reversed))

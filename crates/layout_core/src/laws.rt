@@ -11,7 +11,7 @@ ghost use Rattle.decoder_node.specs.Obey.{runs};
 ghost use Rattle.decoder_node.specs.declared.running.Running.{Running};
 ghost use Rattle.layout_core.specs.declared.event.Event.{Event};
 ghost use Rattle.layout_core.specs.declared.node.Node.{Node};
-ghost use Rattle.layout_core.specs.Cycle.{RunsAfterNoise, RunsAsWanted};
+ghost use Rattle.layout_core.specs.Cycle.{RunsAfterNoise, RunsAsWanted, RunsOnAsWanted};
 ghost use Rattle.layout_core.specs.Settling.{IsAskedBy, IsPacketOf, LeavesAsItIs, TellsAll};
 ghost use Rattle.layout_core.specs.Wanted.{wanted};
 ghost use Rattle.layout_core.specs.Played.{after_events, answer_to};
@@ -68,6 +68,10 @@ pub fn headline()
     ensures after_noise { (start : Seen) (events : List Event) (old new : List Node)
         → HasDesk start.powered → HaveHeard start events old new
         → RunsAfterNoise (known_of start) events old new }
+    // It goes on as long as the slot says the same.
+    ensures goes_on { (start : Seen) (events : List Event) (old new : List Node)
+        → HasDesk start.powered → HaveHeard start events old new
+        → RunsOnAsWanted (known_of start) events old new }
 {
     station_core::laws::calls_are_moves();
     station_core::laws::desk_of_messages();

@@ -1,4 +1,4 @@
-use Rattle.layout_core.proofs.Cycle.{Laws, runs_after_noise, runs_as_wanted}
+use Rattle.layout_core.proofs.Cycle.{Laws, runs_after_noise, runs_as_wanted, runs_on_as_wanted}
 use Rattle.layout_core.proofs.laws.headline.Goals as goal
 
 pub returns : goal.returns
@@ -15,4 +15,4 @@ returns c =
       idle = c.others_leave_it.ensures.idle;
       accessory = c.others_leave_it.ensures.accessory;
     } in
-    record { headline = runs_as_wanted laws; after_noise = runs_after_noise laws }
+    record { headline = runs_as_wanted laws; after_noise = runs_after_noise laws; goes_on = runs_on_as_wanted laws }
