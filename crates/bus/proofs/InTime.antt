@@ -156,7 +156,7 @@ enough_turns laws bus cycle slots h elapsed long =
     enough bus.remaining (micros_in bus cycle) (after_events bus cycle).remaining 10740 (turn_durations (outcomes_of bus cycle)) elapsed h.longest (all_short laws cycle bus) (16 * slots) (omega (arith, long)) in
     omega (arith, many, turns_told cycle bus)
 
-full : TurnsAreBounded → (slot a : ℕ) (e : Entry) (known : ThrottleView) (bus : BusState) (cycle : List Event) → IsInvariant bus
+pub full : TurnsAreBounded → (slot a : ℕ) (e : Entry) (known : ThrottleView) (bus : BusState) (cycle : List Event) → IsInvariant bus
     → IsTimeAccount bus.remaining (micros_in bus cycle) (turn_durations (outcomes_of bus cycle)) (after_events bus cycle).remaining
     → IsTimedCycleOf slot a e known bus cycle → IsCycleOf slot a e known (calls_in (layout_events bus cycle))
 full laws slot a e known bus cycle h elapsed timed = record {
@@ -165,13 +165,13 @@ full laws slot a e known bus cycle h elapsed timed = record {
   stands = timed.stands;
 }
 
-front_legal : (these those : List Event) → AreEvents (these ++ those) → AreEvents these
+pub front_legal : (these those : List Event) → AreEvents (these ++ those) → AreEvents these
 front_legal [] those legal = refl
 front_legal (event ∷ these) those legal =
     let p = and_parts (is_event event) (list_all is_event (these ++ those)) legal in
     and_from (is_event event) (list_all is_event these) p.0 (front_legal these those p.1)
 
-end_legal : (these those : List Event) → AreEvents (these ++ those) → AreEvents those
+pub end_legal : (these those : List Event) → AreEvents (these ++ those) → AreEvents those
 end_legal [] those legal = legal
 end_legal (event ∷ these) those legal = end_legal these those ((and_parts (is_event event) (list_all is_event (these ++ those)) legal).1)
 

@@ -21,7 +21,7 @@ ghost use Rattle.bus.specs.Invariant.{IsInvariant};
 ghost use Rattle.bus.specs.Layout.{layout_event, layout_events};
 ghost use Rattle.bus.specs.declared.event.Event.TheVariants.{Connects, Disconnects};
 ghost use Rattle.bus.specs.Course.{is_time, micros_in, turn_durations};
-ghost use Rattle.bus.specs.Cycle.{RunsInTime};
+ghost use Rattle.bus.specs.Cycle.{Assignment, IsHeard, RunsInTime, RunsOnInTime};
 ghost use Rattle.bus.specs.Own.{stays_connected_in, messages_on, own_requests, messages_to_send, text_from};
 ghost use Rattle.bus.specs.Since.{text_since, requests_nothing, has_connected, changes_connection, stays_connected, traffic};
 ghost use Rattle.bus.specs.Time.{IsTimeAccount};
@@ -106,7 +106,16 @@ pub fn headline()
         → IsInvariant start → AreEvents events → HasDesk start.station.powered
         → HaveHeard start.station (layout_events start events) old new
         → RunsInTime start events old new }
+    // It goes on as long as the slot says the same, and so at each moment of that time.
+    ensures goes_on { (start : BusState) (events : List Event) (old new : List Node)
+        → IsInvariant start → AreEvents events → HasDesk start.station.powered
+        → HaveHeard start.station (layout_events start events) old new
+        → RunsOnInTime start events old new }
+    ensures so_far { (asked : Assignment) (start : BusState) (before cycle later more : List Event)
+        → IsHeard asked start before cycle (later ++ more)
+        → IsHeard asked start before cycle later }
 {
+    station_core::laws::desk_of_messages();
     events_are_the_layout();
     turns_are_bounded();
     turns_of_the_time();
