@@ -1,3 +1,4 @@
 pub mod Legs
 pub mod Reaching
 pub mod Steps
+pub mod Ramps

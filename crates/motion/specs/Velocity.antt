@@ -94,3 +94,23 @@ pub record IsStandstillBetween (drive : Drive) (micros : ℕ) (v : Velocity) : T
   pub moment : ℕ
   pub within : moment ≤ micros
   pub stands : (velocity_after drive moment v).speed ≡ 0
+
+-- the microseconds that a change of speed takes at a rate, rounded up; at least one
+abbrev pub ticks : (change rate : ℕ) → ℕ
+ticks change rate = max 1 ((change + (rate - 1)) / rate)
+
+abbrev pub ramp_to : Momentum → (speed target : ℕ) → ℕ
+ramp_to momentum speed target =
+    if nat_le speed target then ticks (target - speed) momentum.acceleration
+    else ticks (speed - target) momentum.braking
+
+abbrev pub ramp_by : Option Momentum → Drive → Velocity → ℕ
+ramp_by None drive v = 1
+ramp_by (Some momentum) drive v =
+    if is_facing drive v then ramp_to momentum v.speed drive.speed else
+    ticks v.speed momentum.braking + ticks drive.speed momentum.acceleration
+
+-- The time that a ramp needs, in microseconds: one that leads to the other direction first leads to
+-- standstill.
+abbrev pub ramp : Drive → Velocity → ℕ
+ramp drive v = ramp_by drive.momentum drive v

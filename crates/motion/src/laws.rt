@@ -4,7 +4,7 @@ ghost use Rattle.std.specs.Prelude.{◌≡◌, ℕ, ◌+◌, ◌*◌, ◌/◌, �
 ghost use Rattle.motion.specs.declared.velocity.Drive.{Drive};
 ghost use Rattle.motion.specs.declared.velocity.Momentum.{Momentum};
 ghost use Rattle.motion.specs.declared.velocity.Velocity.{Velocity};
-ghost use Rattle.motion.specs.Velocity.{IsStandstillBetween, braking_way, goes_only, is_facing, same_bool, velocity, velocity_after, way, way_in};
+ghost use Rattle.motion.specs.Velocity.{IsStandstillBetween, braking_way, goes_only, is_facing, is_momentum, ramp, same_bool, velocity, velocity_after, way, way_in};
 
 /// However a time is cut in which a train is asked for the same, it has the same velocity in the
 /// end, and goes as far: in all, and in each direction.
@@ -45,6 +45,14 @@ pub fn speeds_are_reached()
         → drive.momentum ≡ Some momentum → IsTrue (is_facing drive v) → drive.speed ≤ v.speed
         → (drive.speed ≤ (velocity_after drive micros v).speed)
         × ((velocity_after drive micros v).speed ≤ v.speed) }
+{}
+
+/// After its ramp a train has exactly the velocity that it is asked for, also one that goes the other
+/// way at first.
+pub fn ramps_end()
+    ensures { (drive : Drive) (v : Velocity) (micros : ℕ) → IsTrue (is_momentum drive.momentum)
+        → ramp drive v ≤ micros
+        → velocity_after drive micros v ≡ velocity drive.forward drive.speed }
 {}
 
 /// How far a train goes while it gathers speed evenly; and until it stands, in whichever direction
