@@ -18,14 +18,14 @@ use Rattle.railway.specs.Railway.{RailwayState, is_railway, is_train, ran_in, ru
 use Rattle.railway.proofs.Leading.{changed-sound}
 use Rattle.railway.proofs.Throwing.{Changes, all-none, end_of_any, train-changed}
 
-no_turnout : TurnoutState → Bool
+unfoldable pub no_turnout : TurnoutState → Bool
 no_turnout state = false
 
 failing-keeps : (switch : Option ℕ) (state : TurnoutState) → (failing_by switch state).turnout ≡ state.turnout
 failing-keeps None state = refl
 failing-keeps (Some switch) state = refl
 
-failing-changes : (switch : Option ℕ) → Changes (failing_by switch) no_turnout
+pub failing-changes : (switch : Option ℕ) → Changes (failing_by switch) no_turnout
 failing-changes None = record { keeps = λ state. refl; others = λ state h. record { turnout = refl; thrown = refl; moving = refl } }
 failing-changes (Some switch) = record { keeps = λ state. refl; others = λ state h. record { turnout = refl; thrown = refl; moving = refl } }
 

@@ -24,3 +24,4 @@ pub mod Pieces
 pub mod Times
 pub mod Sensors
 pub mod Observing
+pub mod Driven

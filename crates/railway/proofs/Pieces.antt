@@ -4,6 +4,7 @@ use Rattle.std.proofs.lemmas.Bool.{and_from, and_parts, eq-eqb}
 use Rattle.std.proofs.lemmas.Bool.Decides.{nat_tests}
 use Rattle.std.specs.List.{list_all, list_any}
 use Rattle.std.specs.Prelude.{if◌then◌else◌, nat_le}
+use Rattle.decoder_node.specs.declared.running.Running.{Running}
 use Rattle.layout_core.specs.declared.node.Node.{Node}
 use Rattle.motion.specs.Velocity.{next_velocity}
 use Rattle.motion.specs.declared.velocity.Drive.{Drive}
@@ -18,11 +19,11 @@ use Rattle.railway.specs.declared.joint.TurnoutState.{TurnoutState}
 use Rattle.railway.specs.declared.train.Place.{Place}
 use Rattle.railway.specs.declared.train.TrainState.{TrainState}
 use Rattle.railway.specs.Blocks.{length_of, no_blocks}
-use Rattle.railway.specs.Laws.{asked_of}
 use Rattle.railway.specs.Network.{Network, covered, exit_of, is_end_of, is_sound, marked, onward, onward_by, run_on, step, stepped, switch_at}
 use Rattle.railway.specs.Places.{end_ahead, further, is_derailed, span, still, to_end, turned}
 use Rattle.railway.specs.Railway.{RailwayState, advanced_under, elapsed, is_piece, is_railway, is_train, laid_in, run_through, ran_in, run_in, run_under}
-use Rattle.railway.specs.Running.{moved_at, ridden, rode, run_by}
+use Rattle.railway.specs.Running.{moved_at, ridden, rode, run_by, run_for}
+use Rattle.railway.specs.Trains.{drive_of, running_in}
 use Rattle.railway.specs.Turnouts.{advanced, checked, moved_on, is_calm, is_calm_for, is_changed, laid, observed, outputs_in, same_bool, seen_of}
 use Rattle.railway.proofs.Facts.{or-none}
 use Rattle.railway.proofs.Leading.{advanced-sound, laid-sound}
@@ -136,10 +137,10 @@ elapsed-elapsed r p nodes these those =
 
 -- A track that leads where another one does: a train runs on it as on the other.
 
-record SameTrack (f : TurnoutState → TurnoutState) (n : Network) : Type 0 where
-  exits : (end : BlockEnd) → exit_of (changed f n) end ≡ exit_of n end
-  switches : (end : BlockEnd) → switch_at (map f n.turnouts) end ≡ switch_at n.turnouts end
-  covers : (p : Place) (way : ℕ) → covered (changed f n) p way no_blocks ≡ covered n p way no_blocks
+pub record SameTrack (f : TurnoutState → TurnoutState) (n : Network) : Type 0 where
+  pub exits : (end : BlockEnd) → exit_of (changed f n) end ≡ exit_of n end
+  pub switches : (end : BlockEnd) → switch_at (map f n.turnouts) end ≡ switch_at n.turnouts end
+  pub covers : (p : Place) (way : ℕ) → covered (changed f n) p way no_blocks ≡ covered n p way no_blocks
 
 onward-same : (f : TurnoutState → TurnoutState) (n : Network) → SameTrack f n → (p : Place) → onward (changed f n) p ≡ onward n p
 onward-same f n c p = ap (λ (exit : Exit). if to_end (length_of n.blocks p.block) p == 0 then onward_by n.blocks exit else To (further p 1)) (c.exits (end_ahead p))
@@ -175,13 +176,16 @@ ridden-same-track f n c d (suc k) t =
     ap (λ (u : TrainState). ridden (changed f n) d k u) (moved-same f n c (next_velocity d t.velocity) (next_velocity d t.velocity).speed t)
     ∙ ridden-same-track f n c d k (rode n d t)
 
-in-same-track : (f : TurnoutState → TurnoutState) (n : Network) → SameTrack f n → (micros : ℕ) (nodes : List Node) (t : TrainState) → run_in (changed f n) micros nodes t ≡ run_in n micros nodes t
-in-same-track f n c micros nodes t =
-    let d : Drive = asked_of nodes t in
+pub for-same-track : (f : TurnoutState → TurnoutState) (n : Network) → SameTrack f n → (micros : ℕ) (running : Option Running) (t : TrainState) → run_for (changed f n) micros running t ≡ run_for n micros running t
+for-same-track f n c micros running t =
+    let d : Drive = drive_of t running in
     let there : TrainState = ridden n d micros t in
     ap (λ (u : TrainState). if is_derailed t then t else u)
     (ap (λ (u : TrainState). marked (changed f n) u) (ridden-same-track f n c d micros t)
     ∙ ap (λ (m : List Bool). record there { under = m }) (c.covers there.rear (span there)))
+
+in-same-track : (f : TurnoutState → TurnoutState) (n : Network) → SameTrack f n → (micros : ℕ) (nodes : List Node) (t : TrainState) → run_in (changed f n) micros nodes t ≡ run_in n micros nodes t
+in-same-track f n c micros nodes t = for-same-track f n c micros (running_in nodes t.decoder) t
 
 under-same-track : (p : Power) (f : TurnoutState → TurnoutState) (n : Network) → SameTrack f n → (micros : ℕ) (nodes : List Node) (t : TrainState) → run_under p (changed f n) micros nodes t ≡ run_under p n micros nodes t
 under-same-track Off f n c micros nodes t = refl
@@ -216,12 +220,16 @@ same-switches f is c (state ∷ states) end =
     ap (λ (turnout : _). if is_end_of end (record (f state) { turnout = turnout }) then turnout.switch else switch_at (map f states) end) (c.keeps state)
     ∙ ap (λ (rest : ℕ). if is_end_of end state then state.turnout.switch else rest) (same-switches f is c states end)
 
-calm-track : (n : Network) → list_any (comes 1) n.turnouts ≡ false → SameTrack (moved_on 1) n
-calm-track n none = record {
-  exits = λ end. same-exit (moved_on 1) (comes 1) (moved_on-changes 1) n end (none-end (comes 1) n.turnouts end none);
-  switches = λ end. same-switches (moved_on 1) (comes 1) (moved_on-changes 1) n.turnouts end;
-  covers = λ p way. covered-changed (moved_on 1) (comes 1) (moved_on-changes 1) n p way no_blocks (none-first-at (comes 1) n p way none);
+-- a track of which no turnout leads elsewhere
+pub same-track : (f : TurnoutState → TurnoutState) (is : TurnoutState → Bool) → Changes f is → (n : Network) → list_any is n.turnouts ≡ false → SameTrack f n
+same-track f is changes n none = record {
+  exits = λ end. same-exit f is changes n end (none-end is n.turnouts end none);
+  switches = λ end. same-switches f is changes n.turnouts end;
+  covers = λ p way. covered-changed f is changes n p way no_blocks (none-first-at is n p way none);
 }
+
+calm-track : (n : Network) → list_any (comes 1) n.turnouts ≡ false → SameTrack (moved_on 1) n
+calm-track n none = same-track (moved_on 1) (comes 1) (moved_on-changes 1) n none
 
 moved_on-moved_on : (k : ℕ) (states : List TurnoutState) → map (moved_on k) (map (moved_on 1) states) ≡ map (moved_on (suc k)) states
 moved_on-moved_on k [] = refl

@@ -16,7 +16,7 @@ use Rattle.railway.proofs.Running.{in-derailed, in-itself, same-drive}
 
 -- A train that ran, and runs on so, ran for all of the time.
 
-in-in : (n : Network) (nodes : List Node) (these those : ℕ) (t : TrainState) → run_in n those nodes (run_in n these nodes t) ≡ run_in n (these + those) nodes t
+pub in-in : (n : Network) (nodes : List Node) (these those : ℕ) (t : TrainState) → run_in n those nodes (run_in n these nodes t) ≡ run_in n (these + those) nodes t
 in-in n nodes these those t = elim (cases_Bool (is_derailed t)) [
   | inl derailed ↦
       ap (λ (u : TrainState). run_in n those nodes u) (in-derailed n these nodes t derailed) ∙ in-derailed n those nodes t derailed ∙ sym (in-derailed n (these + those) nodes t derailed)

@@ -3,6 +3,7 @@ pub mod BlockSets
 pub mod Conflicts
 pub mod Course
 pub mod Decoders
+pub mod Driven
 pub mod Ends
 pub mod Failures
 pub mod Faults

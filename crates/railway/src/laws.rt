@@ -19,6 +19,7 @@ ghost use Rattle.railway.specs.declared.train.Place.{Place};
 ghost use Rattle.railway.specs.declared.train.TrainState.{TrainState};
 ghost use Rattle.railway.specs.Blocks.{default_block, length_of};
 ghost use Rattle.railway.specs.Conflicts.{conflict_in};
+ghost use Rattle.railway.specs.Driven.{AllLeaveAlone, AreDrivenBy, HasRun, time_in};
 ghost use Rattle.railway.specs.Course.{Happening, after, after_all, reports_of_all};
 ghost use Rattle.railway.specs.Laws.{AreChanges, HasAllBlocks, IsConflict, IsOnRails, IsOnWay, StandsBetween, is_failure, is_moving_end, is_sensor_failure, leading, moved_on_under, runs_only, speed_times_time, train_after, velocity_of, way_of};
 ghost use Rattle.railway.specs.Failures.{failing_by, has_switch, none_failing, with_sensor};
@@ -114,6 +115,22 @@ pub fn ways_are_speed_times_time()
         → is_derailed (run_in network micros nodes train) ≡ false }
 {
     motion::laws::without_momentum_at_once();
+}
+
+/// A train whose decoder runs the same through all that happens, and that is left alone, has run so
+/// for all of the time: at its speed times the time, or at its speed after its ramp.
+pub fn trains_run_as_driven()
+    ensures { (railway : RailwayState) (happenings : List Happening) (i : ℕ) (none : TrainState)
+        (running : Running) → IsTrue (is_railway railway) → i < length railway.trains
+        → AllLeaveAlone i railway happenings
+        → AreDrivenBy (slice_index_or railway.trains i none).decoder running happenings
+        → HasRun railway.network running (time_in happenings)
+        (slice_index_or railway.trains i none)
+        (slice_index_or (after_all railway happenings).trains i none) }
+{
+    railways_are_kept();
+    ways_are_speed_times_time();
+    motion::laws::ramps_end();
 }
 
 /// A train whose decoder is to stop brakes over exactly its braking distance, and then stands; this
