@@ -17,6 +17,7 @@ pub mod Placing
 pub mod Repeating
 pub mod Rounding
 pub mod Sizes
+pub mod SliderToRail
 pub mod SoFar
 pub mod Stepping
 pub mod Stopping

@@ -22,6 +22,7 @@ pub mod SendQueue
 pub mod SendQueues
 pub mod Sensors
 pub mod ServerState
+pub mod SliderToRail
 pub mod Snapshots
 pub mod SoFar
 pub mod StoppedRuns

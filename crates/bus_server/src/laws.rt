@@ -5,6 +5,7 @@ ghost use Rattle.bus_server.specs.Known.{BecomesKnown, StaysKnown};
 ghost use Rattle.bus_server.specs.MainTrack.{MainTrackIsApart};
 ghost use Rattle.bus_server.specs.Repeats.{OrderDecides, RunsRepeat, TurnsFollowMessages};
 ghost use Rattle.bus_server.specs.Running.{NoneMisses, RoundsAreARun, TimeIsRead};
+ghost use Rattle.bus_server.specs.SliderToRail.{SliderReachesRail};
 
 /// Whatever rounds a run has had, also one that goes on: their events, in order, are what the bus ran, and the headline in time
 /// holds of them.
@@ -14,6 +15,17 @@ pub fn rounds_are_a_run()
     bus::laws::events_are_the_layout();
     layout_core::laws::events_add_up();
     bus::laws::headline();
+}
+
+/// From slider to rail: after a cycle as the headline in time says it, while the slot says the same
+/// and the turnouts stay, a train has run as the slot asks for exactly the time since then.
+pub fn slider_reaches_rail()
+    ensures { SliderReachesRail }
+{
+    bus::laws::events_are_the_layout();
+    layout_core::laws::events_add_up();
+    bus::laws::headline();
+    railway::laws::trains_run_as_driven();
 }
 
 /// If turns follow time, the track time of a run, with what is still due, is the sum of the clock's readings, each a second at

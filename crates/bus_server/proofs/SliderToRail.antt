@@ -1,0 +1,217 @@
+-- From slider to rail.
+use Rattle.std.proofs.Common.{◌≡◌, ◌≢◌, ℕ, ◌+◌, ◌<◌, List, [], ◌∷◌, ◌++◌, length, Option, Some, None, Ok, Err, refl, ap, sym, subst, ◌∙◌, arith, append_assoc}
+use Rattle.std.proofs.lemmas.List.{append-nil}
+use Rattle.std.proofs.lemmas.Option.{slice_get-get_or}
+use Rattle.std.specs.List.{slice_index_or}
+use Rattle.std.specs.Option.{option_and_then}
+use Rattle.std.specs.Prelude.{IsTrue}
+use Rattle.refresh_ring.specs.declared.pick.Power.{Power}
+use Rattle.refresh_ring.specs.declared.pick.Power.TheVariants.{Off, Running as PowerRuns}
+use Rattle.station_core.specs.Moments.{IsLive}
+use Rattle.station_core.specs.Powered.{HasDesk}
+use Rattle.decoder_node.specs.declared.running.Running.{Running}
+use Rattle.layout_core.specs.declared.node.Node.{Node}
+use Rattle.layout_core.specs.declared.node.Node.TheVariants.{Loco}
+use Rattle.layout_core.specs.Nodes.{running_of}
+use Rattle.layout_core.specs.World.{HaveHeard}
+use Rattle.railway.specs.declared.train.TrainState.{TrainState}
+use Rattle.railway.specs.Course.{Happening, after, after_all}
+use Rattle.railway.specs.Course.Happening.{Elapses as TimeElapses}
+use Rattle.railway.specs.Driven.{AllLeaveAlone, AreDrivenBy, HasRun, IsDrivenBy, time_in, time_of}
+use Rattle.railway.specs.Railway.{RailwayState, is_railway}
+use Rattle.railway.specs.Trains.{running_in as runs_in}
+use Rattle.loconet_tcp.specs.declared.request.DeviceRequest.{DeviceRequest}
+use Rattle.loconet_tcp.specs.declared.request.DeviceRequest.TheVariants.{Mount, Fail}
+use Rattle.loconet_tcp.specs.declared.request.Failure.TheVariants.{Programming, Sensor, Turnout}
+use Rattle.bus.specs.declared.event.Event.{Event}
+use Rattle.bus.specs.declared.event.Event.TheVariants.{Connects, Receives, Disconnects, Reports, Programs, Elapses, Turn}
+use Rattle.bus.specs.declared.outcome.Outcome.{Outcome}
+use Rattle.bus.specs.declared.outcome.Outcome.TheVariants.{Nothing, Connected, Disconnected, Rejected, Sent, Reported, Programmed, TurnsRequested, StatesRequested, PlaceRequested, Placed, DeviceRequested, DeviceAnswered, TurnBegan}
+use Rattle.bus.specs.Bus.{AreEvents, BusState, after_event, outcome_of}
+use Rattle.bus.specs.Cycle.{Assignment, IsHeard, RunsOnInTime, wanted_of}
+use Rattle.bus.specs.Invariant.{IsInvariant}
+use Rattle.bus.specs.Layout.{layout_events}
+use Rattle.bus_server.specs.Failures.{happened_to, happening_by}
+use Rattle.bus_server.specs.Running.{IsEventRun}
+use Rattle.bus_server.specs.Sensors.{power_of, railway_after, railway_elapsed, railway_requested, running_in}
+use Rattle.bus_server.specs.ServerState.{LoggedEvent, ServerState, events_of}
+use Rattle.bus_server.specs.SliderToRail.{IsLeftAlone, RunsLeavingAlone, SliderReachesRail, happening_in, requested_of, run_time, run_time_in}
+use Rattle.bus_server.proofs.Courses.{Laws, course_more, happened_course}
+
+-- What an event does to the railway is what happens to it.
+
+requested-is : (names : List (List ℕ)) (outcome : Outcome) (o : Option RailwayState) → railway_requested names outcome o ≡ happened_to (requested_of names outcome o) o
+requested-is names (PlaceRequested client (Ok placement)) (Some r) = refl
+requested-is names (PlaceRequested client (Ok placement)) None = refl
+requested-is names (PlaceRequested client (Err error)) o = refl
+requested-is names (DeviceRequested client request) o = refl
+requested-is names Nothing o = refl
+requested-is names (Connected client) o = refl
+requested-is names (Disconnected client) o = refl
+requested-is names (Rejected client reason) o = refl
+requested-is names (Sent client message reply) o = refl
+requested-is names (Reported message) o = refl
+requested-is names (Programmed packet change) o = refl
+requested-is names (TurnsRequested client turns) o = refl
+requested-is names (StatesRequested client things) o = refl
+requested-is names (Placed client answer) o = refl
+requested-is names (DeviceAnswered client answer) o = refl
+requested-is names (TurnBegan packet) o = refl
+
+elapsed-is : (o : Option RailwayState) (micros : ℕ) (power : Power) (nodes : List Node) → railway_elapsed o micros power nodes ≡ happened_to (Some (TimeElapses micros power nodes)) o
+elapsed-is None micros power nodes = refl
+elapsed-is (Some r) micros power nodes = refl
+
+after-is : (s : ServerState) (nodes : List Node) (event : Event) → railway_after s.names s.bus nodes event s.railway ≡ happened_to (happening_in s nodes event) s.railway
+after-is s nodes (Elapses micros missed) = elapsed-is s.railway _ _ nodes
+after-is s nodes (Turn missed) = elapsed-is s.railway _ _ nodes
+after-is s nodes (Receives client byte) = requested-is s.names (outcome_of s.bus (Receives client byte)) s.railway
+after-is s nodes (Connects client) = refl
+after-is s nodes (Disconnects client) = refl
+after-is s nodes (Reports message) = refl
+after-is s nodes (Programs packet change) = refl
+
+-- In it the decoder runs so, and it takes the time of the event.
+
+abbrev DrivenIf : (decoder : ℕ) → Running → Option Happening → Type 0
+DrivenIf decoder running None = Unit {0}
+DrivenIf decoder running (Some happening) = IsDrivenBy decoder running happening
+
+abbrev time_if : Option Happening → ℕ
+time_if None = 0
+time_if (Some happening) = time_of happening
+
+record Takes (decoder : ℕ) (running : Running) (micros : ℕ) (o : Option Happening) : Type 0 where
+  driven : DrivenIf decoder running o
+  time : time_if o ≡ micros
+
+failure-takes : (decoder : ℕ) (running : Running) (request : DeviceRequest) → Takes decoder running 0 (happening_by request)
+failure-takes decoder running (Mount name) = record { driven = tt; time = refl }
+failure-takes decoder running (Fail (Err error)) = record { driven = tt; time = refl }
+failure-takes decoder running (Fail (Ok None)) = record { driven = tt; time = refl }
+failure-takes decoder running (Fail (Ok (Some Programming))) = record { driven = tt; time = refl }
+failure-takes decoder running (Fail (Ok (Some (Sensor sensor occupied)))) = record { driven = tt; time = refl }
+failure-takes decoder running (Fail (Ok (Some (Turnout switch)))) = record { driven = tt; time = refl }
+
+request-takes : (decoder : ℕ) (running : Running) (names : List (List ℕ)) (outcome : Outcome) (o : Option RailwayState) → Takes decoder running 0 (requested_of names outcome o)
+request-takes decoder running names (PlaceRequested client (Ok placement)) (Some r) = record { driven = tt; time = refl }
+request-takes decoder running names (PlaceRequested client (Ok placement)) None = record { driven = tt; time = refl }
+request-takes decoder running names (PlaceRequested client (Err error)) o = record { driven = tt; time = refl }
+request-takes decoder running names (DeviceRequested client request) o = failure-takes decoder running request
+request-takes decoder running names Nothing o = record { driven = tt; time = refl }
+request-takes decoder running names (Connected client) o = record { driven = tt; time = refl }
+request-takes decoder running names (Disconnected client) o = record { driven = tt; time = refl }
+request-takes decoder running names (Rejected client reason) o = record { driven = tt; time = refl }
+request-takes decoder running names (Sent client message reply) o = record { driven = tt; time = refl }
+request-takes decoder running names (Reported message) o = record { driven = tt; time = refl }
+request-takes decoder running names (Programmed packet change) o = record { driven = tt; time = refl }
+request-takes decoder running names (TurnsRequested client turns) o = record { driven = tt; time = refl }
+request-takes decoder running names (StatesRequested client things) o = record { driven = tt; time = refl }
+request-takes decoder running names (Placed client answer) o = record { driven = tt; time = refl }
+request-takes decoder running names (DeviceAnswered client answer) o = record { driven = tt; time = refl }
+request-takes decoder running names (TurnBegan packet) o = record { driven = tt; time = refl }
+
+-- the decoder runs so, and there is power
+record Drives (decoder : ℕ) (running : Running) (s : ServerState) : Type 0 where
+  runs : runs_in s.nodes decoder ≡ Some running
+  power : power_of s.bus ≢ Off
+
+takes : (decoder : ℕ) (running : Running) (s mid : ServerState) (event : Event) → Drives decoder running s → Drives decoder running mid
+    → Takes decoder running (run_time s.bus event) (happening_in s (running_in event s.nodes mid.nodes) event)
+takes decoder running s mid (Elapses micros missed) before behind = record { driven = (before.power, before.runs); time = refl }
+takes decoder running s mid (Turn missed) before behind = record { driven = (before.power, behind.runs); time = refl }
+takes decoder running s mid (Receives client byte) before behind = request-takes decoder running s.names (outcome_of s.bus (Receives client byte)) s.railway
+takes decoder running s mid (Connects client) before behind = record { driven = tt; time = refl }
+takes decoder running s mid (Disconnects client) before behind = record { driven = tt; time = refl }
+takes decoder running s mid (Reports message) before behind = record { driven = tt; time = refl }
+takes decoder running s mid (Programs packet change) before behind = record { driven = tt; time = refl }
+
+-- The laws of the bus.
+
+abbrev pub RunsOn : Type 0
+RunsOn = (start : BusState) (events : List Event) (old new : List Node) → IsInvariant start → AreEvents events → HasDesk start.station.powered
+    → HaveHeard start.station (layout_events start events) old new → RunsOnInTime start events old new
+
+abbrev pub SoFar : Type 0
+SoFar = (asked : Assignment) (start : BusState) (before cycle later more : List Event) → IsHeard asked start before cycle (later ++ more) → IsHeard asked start before cycle later
+
+abbrev pub RunsAsDriven : Type 0
+RunsAsDriven = (railway : RailwayState) (happenings : List Happening) (i : ℕ) (none : TrainState) (running : Running) → IsTrue (is_railway railway) → i < length railway.trains
+    → AllLeaveAlone i railway happenings → AreDrivenBy (slice_index_or railway.trains i none).decoder running happenings
+    → HasRun railway.network running (time_in happenings) (slice_index_or railway.trains i none) (slice_index_or (after_all railway happenings).trains i none)
+
+-- what happened to a railway
+record Ran (train decoder : ℕ) (running : Running) (r : RailwayState) (micros : ℕ) (new : ServerState) : Type 0 where
+  happenings : List Happening
+  there : new.railway ≡ Some (after_all r happenings)
+  alone : AllLeaveAlone train r happenings
+  driven : AreDrivenBy decoder running happenings
+  time : time_in happenings ≡ micros
+
+-- one thing more, if anything
+joined : (train decoder : ℕ) (running : Running) (r : RailwayState) (here more : ℕ) (mid new : ServerState) (o : Option Happening) → mid.railway ≡ happened_to o (Some r) → IsLeftAlone train o (Some r) → Takes decoder running here o
+    → ((s : RailwayState) → mid.railway ≡ Some s → Ran train decoder running s more new) → Ran train decoder running r (here + more) new
+joined train decoder running r here more mid new None same alone takes rest =
+    let ran = rest r same in
+    record { happenings = ran.happenings; there = ran.there; alone = ran.alone; driven = ran.driven; time = omega (arith, ran.time, takes.time) }
+joined train decoder running r here more mid new (Some happening) same alone takes rest =
+    let ran = rest (after r happening) same in
+    record {
+      happenings = happening ∷ ran.happenings;
+      there = ran.there;
+      alone = (alone, ran.alone);
+      driven = (takes.driven, ran.driven);
+      time = omega (arith, ran.time, takes.time);
+    }
+
+not-off : PowerRuns ≡ Off → ⊥
+not-off h = cc
+
+module _ (laws : Laws) (goes_on : RunsOn) (so_far : SoFar) (asked : Assignment) (before cycle : List Event) (start : ServerState) (none : Node) (kept : IsInvariant start.bus) (desk : HasDesk start.bus.station.powered)
+    (below : asked.node < length start.nodes) (stands : slice_index_or start.nodes asked.node none ≡ Loco asked.loco) where
+  drives : (later : List Event) (s : ServerState) → IsHeard asked start.bus before cycle later → IsEventRun (before ++ (cycle ++ later)) start s → Drives asked.node (wanted_of asked) s
+  drives later s heard run =
+      let events : List Event = before ++ (cycle ++ later) in
+      let runs = goes_on start.bus events start.nodes s.nodes kept run.legal desk run.nodes asked before cycle later none refl below stands heard in
+      let within : asked.node < length s.nodes = omega (arith, below, run.nodes.count) in
+      let live : IsLive asked.slot s.bus.station.powered = subst (λ (bus : BusState). IsLive asked.slot bus.station.powered) (sym run.bus) runs.1 in
+      record {
+        runs = ap (λ (o : Option Node). option_and_then running_of o) (slice_get-get_or s.nodes asked.node none within) ∙ runs.0;
+        power = λ off. not-off (sym live.running ∙ off);
+      }
+
+  goes : (train : ℕ) (later : List LoggedEvent) (so : List Event) (s new : ServerState) (r : RailwayState) → IsHeard asked start.bus before cycle (so ++ events_of later) → IsEventRun (before ++ (cycle ++ so)) start s
+      → s.railway ≡ Some r → RunsLeavingAlone train later s new → Ran train asked.node (wanted_of asked) r (run_time_in s.bus (events_of later)) new
+  goes train [] so s new r heard run has runs = record { happenings = []; there = ap (λ (state : ServerState). state.railway) runs ∙ has; alone = tt; driven = tt; time = refl }
+  goes train (one ∷ more) so s new r heard run has runs =
+      let mid : ServerState = runs.0 in
+      let step = runs.1 in
+      let on : List Event = so ++ one.event ∷ [] in
+      let parts : so ++ (one.event ∷ events_of more) ≡ on ++ events_of more = sym (append_assoc so (one.event ∷ []) (events_of more)) in
+      let heard_then : IsHeard asked start.bus before cycle (on ++ events_of more) = subst (λ (later : List Event). IsHeard asked start.bus before cycle later) parts heard in
+      let whole : (before ++ (cycle ++ so)) ++ one.event ∷ [] ≡ before ++ (cycle ++ on) = append_assoc before (cycle ++ so) (one.event ∷ []) ∙ ap (λ (events : List Event). before ++ events) (append_assoc cycle so (one.event ∷ [])) in
+      let run_then : IsEventRun (before ++ (cycle ++ on)) start mid =
+      subst (λ (events : List Event). IsEventRun events start mid) whole
+      (course_more laws (before ++ (cycle ++ so)) (one.event ∷ []) start s mid kept run (λ k. happened_course laws (one ∷ []) s mid k (mid, step, refl))) in
+      let nodes : List Node = running_in one.event s.nodes mid.nodes in
+      let here = drives so s (so_far asked start.bus before cycle so (one.event ∷ events_of more) heard) run in
+      let behind = drives on mid (so_far asked start.bus before cycle on (events_of more) heard_then) run_then in
+      let same : mid.railway ≡ happened_to (happening_in s nodes one.event) (Some r) =
+      step.railway ∙ after-is s nodes one.event ∙ ap (λ (o : Option RailwayState). happened_to (happening_in s nodes one.event) o) has in
+      joined train asked.node (wanted_of asked) r (run_time s.bus one.event) (run_time_in (after_event s.bus one.event) (events_of more)) mid new (happening_in s nodes one.event) same
+      (subst (λ (o : Option RailwayState). IsLeftAlone train (happening_in s nodes one.event) o) has runs.2)
+      (takes asked.node (wanted_of asked) s mid one.event here behind)
+      (λ now is. subst (λ (bus : BusState). Ran train asked.node (wanted_of asked) now (run_time_in bus (events_of more)) new) step.bus (goes train more on mid new now heard_then run_then is runs.3))
+
+pub slider_reaches_rail : Laws → RunsOn → SoFar → RunsAsDriven → SliderReachesRail
+slider_reaches_rail laws goes_on so_far as_driven asked before cycle later start settled new none kept desk below stands heard run train no_train r has railway within own runs =
+    let none_yet : cycle ++ [] ≡ cycle = append-nil cycle in
+    let ran = goes laws goes_on so_far asked before cycle start none kept desk below stands train later [] settled new r heard (subst (λ (events : List Event). IsEventRun (before ++ events) start settled) (sym none_yet) run) has runs in
+    let t : TrainState = slice_index_or r.trains train no_train in
+    let now : RailwayState = after_all r ran.happenings in (
+      now,
+      ran.there,
+      subst (λ (micros : ℕ). HasRun r.network (wanted_of asked) micros t (slice_index_or now.trains train no_train)) ran.time
+          (as_driven r ran.happenings train no_train (wanted_of asked) railway within ran.alone
+          (subst (λ (decoder : ℕ). AreDrivenBy decoder (wanted_of asked) ran.happenings) (sym own) ran.driven)),
+    )
