@@ -25,3 +25,4 @@ pub mod Times
 pub mod Sensors
 pub mod Observing
 pub mod Driven
+pub mod Premises
