@@ -63,6 +63,9 @@ BLOCKS_6_AND_7 = BLOCK_6 + "1000\n" + BLOCK_6.replace("x", "y") + "1000\n"
 TIMED_TURNOUT = '[[turnout]]\nswitch = 3\ncommon = "west.a"\nclosed = "west.b"\nthrown = "main.b"\ntime = '
 LONE_TURNOUT = '[[turnout]]\nswitch = 5\ncommon = "x.a"\nclosed = "x.b"\nthrown = "y.a"\n'
 
+# At 50,000 mm/s a train goes 537 mm in a turn of 10,740 microseconds: as far as a train of 200 and a block of 337 mm are long.
+FAST_TRAIN, TOO_FAST = TRAIN.replace("300", "50000"), "train 1 (express): too fast for the shortest block (block x)"
+
 # Whole texts, and the words of their fault; none if they have none.
 TEXTS = [
     ("version = 1", ""),
@@ -72,6 +75,9 @@ TEXTS = [
     (TRACK + TRAIN.replace("200", "3999"), ""),
     (TRACK + LONG_TRAIN.replace("601", "600"), ""),
     (TRACK + TRAIN.replace("600", "1"), ""),
+    (TRACK + BLOCK_6 + "338\n" + FAST_TRAIN, ""),
+    (TRACK + BLOCK_6 + "337\n" + FAST_TRAIN.replace("50000", "49999"), ""),
+    (TRACK + BLOCK_6 + "337\n" + FAST_TRAIN.replace("200", "201"), ""),
     (TRACK + TRAIN.replace("600", "1000"), ""),
     ("x", "line 1: it is not TOML"),
     ("version =", "line 1: it is not TOML"),
@@ -166,6 +172,10 @@ PARTS = [
     (TRAIN.replace("600", "1001"), "train 1 (express): its front is not in its block (main)"),
     (TRAIN.replace("600", "1000").replace('"b"', '"a"'), "train 1 (express): its front is not in its block (main)"),
     (LONG_TRAIN, "train 1 (express): longer than the track behind it (block siding)"),
+    (BLOCK_6 + "337\n" + FAST_TRAIN, TOO_FAST),
+    (BLOCK_6 + "1\n" + TRAIN.replace("300", "65535"), TOO_FAST),
+    # Of two shortest blocks it names the first.
+    (BLOCK_6.replace("x", "y") + "338\n" + BLOCK_6 + "337\n" + BLOCK_6.replace("x", "z") + "337\n" + FAST_TRAIN, TOO_FAST),
 ]
 
 
@@ -199,6 +209,7 @@ TWO_FAULTS = [
     (LONG_TRAIN.replace("express", "turnouts"), "train 1 (turnouts): its decoder is not of a locomotive"),
     (LONG_TRAIN.replace("600", "1001"), "train 1 (express): its front is not in its block (siding)"),
     (TRAIN.replace("600", "1001") + LONG_TRAIN, "train 1 (express): train 2 has this decoder too"),
+    (BLOCK_6 + "1\n" + LONG_TRAIN.replace("300", "65535"), "train 1 (express): longer than the track behind it (block siding)"),
 ]
 
 

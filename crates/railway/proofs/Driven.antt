@@ -163,7 +163,7 @@ record Goes (r s : RailwayState) (i micros : ℕ) (running : Running) (none : Tr
   count : length s.trains ≡ length r.trains
   train : slice_index_or s.trains i none ≡ run_for r.network micros (Some running) (slice_index_or r.trains i none)
 
-powered : (p : Power) (n : Network) (micros : ℕ) (nodes : List Node) (t : TrainState) → p ≢ Off → run_under p n micros nodes t ≡ run_in n micros nodes t
+pub powered : (p : Power) (n : Network) (micros : ℕ) (nodes : List Node) (t : TrainState) → p ≢ Off → run_under p n micros nodes t ≡ run_in n micros nodes t
 powered Off n micros nodes t h = absurd (h refl)
 powered PowerOn n micros nodes t h = refl
 powered Paused n micros nodes t h = refl

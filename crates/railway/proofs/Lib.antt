@@ -26,3 +26,5 @@ pub mod Sensors
 pub mod Observing
 pub mod Driven
 pub mod Premises
+pub mod Unseen
+pub mod Speeds

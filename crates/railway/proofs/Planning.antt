@@ -33,7 +33,7 @@ use Rattle.railway.proofs.Keeping.{marked-whole, spans-spanned, train-from, way-
 use Rattle.railway.proofs.Riding.{movable-from}
 use Rattle.railway.proofs.Turning.{on_track-from, turned-turned, way-back, way-on_track}
 
-or-none : (one two : Option PlanFault) → option_or one two ≡ None → (one ≡ None) × (two ≡ None)
+pub or-none : (one two : Option PlanFault) → option_or one two ≡ None → (one ≡ None) × (two ≡ None)
 or-none None two h = (refl, h)
 or-none (Some fault) two h = cc
 

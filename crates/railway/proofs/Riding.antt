@@ -113,7 +113,7 @@ unfolding run_on
 run-slow n t zero most h = h
 run-slow n t (suc way) most h = run-slow n (step n t) way most (step-slow n t most h)
 
-by-slow : (n : Network) (forward : Bool) (way most : ℕ) (t : TrainState) → t.velocity.speed ≤ most → (run_by n forward way t).velocity.speed ≤ most
+pub by-slow : (n : Network) (forward : Bool) (way most : ℕ) (t : TrainState) → t.velocity.speed ≤ most → (run_by n forward way t).velocity.speed ≤ most
 by-slow n true way most t h = run-slow n t way most h
 by-slow n false way most t h = run-slow n (turned t) way most h
 

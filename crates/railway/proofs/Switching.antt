@@ -208,7 +208,7 @@ pub moving-onward : (n : Network) (p : Place) → IsTrue (is_sound n) → to_end
 moving-onward n p is last moves = onward-end n p last ∙ ap (λ (e : Exit). onward_by n.blocks e) (moving-exit n (end_ahead p) is moves)
 
 -- no train on the rails is over a turnout that moves
-none-moving : (micros : ℕ) (n : Network) (t : TrainState) → IsTrue (is_sound n) → is_train n t ≡ true → is_derailed t ≡ false → first_at (end_of_any (comes micros) n.turnouts) n t.rear (span t) ≡ None
+pub none-moving : (micros : ℕ) (n : Network) (t : TrainState) → IsTrue (is_sound n) → is_train n t ≡ true → is_derailed t ≡ false → first_at (end_of_any (comes micros) n.turnouts) n t.rear (span t) ≡ None
 none-moving micros n t is h rails =
     all-none (end_of_any (comes micros) n.turnouts) n t.rear (span t) at where
       whole : way_on n t.rear (span t) ≡ Some t.front

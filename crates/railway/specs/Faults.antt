@@ -16,6 +16,7 @@ use Rattle.railway.specs.Blocks.{default_block, is_block_sensor, is_free, is_len
 use Rattle.railway.specs.Decoders.{decoder_of, is_loco}
 use Rattle.railway.specs.Ends.{ends_of, is_joint, is_turnout, named_twice}
 use Rattle.railway.specs.Network.{Network, last_on}
+use Rattle.railway.specs.Passing.{fault_of_speeds, shortest}
 use Rattle.railway.specs.Placement.{front_of, has_front, is_room, span_of}
 use Rattle.railway.specs.Places.{turned_place}
 use Rattle.railway.specs.Turnouts.{network_of}
@@ -101,8 +102,14 @@ fault_of_track specs plan =
     (option_or (option_map EndTwice (named_twice (ends_of plan.joints.items plan.turnouts.items)))
     (fault_of_motors specs 0 plan.turnouts.items))))
 
+-- the first fault of each train, and then of their speeds
+abbrev pub fault_of_all_trains : List NodeSpec → Network → List Train → Option PlanFault
+fault_of_all_trains specs network trains =
+    option_or (fault_of_trains specs network 0 trains)
+    (fault_of_speeds (shortest None network.blocks) 0 trains)
+
 -- and then with its trains
 abbrev pub fault_of : List NodeSpec → Plan → Option PlanFault
 fault_of specs plan =
     option_or (fault_of_track specs plan)
-    (fault_of_trains specs (network_of specs plan) 0 plan.trains.items)
+    (fault_of_all_trains specs (network_of specs plan) plan.trains.items)

@@ -9,6 +9,7 @@ pub mod Failures
 pub mod Faults
 pub mod Laws
 pub mod Network
+pub mod Passing
 pub mod Placement
 pub mod Places
 pub mod Railway

@@ -4,11 +4,12 @@ ghost use Rattle.motion.specs.Velocity.{is_momentum};
 ghost use Rattle.railway.specs.Blocks.{has_sensor, is_block_sensor, is_free};
 ghost use Rattle.railway.specs.Ends.{ends_of, ends_of_joints, ends_of_turnouts, has_end, is_end, named_twice};
 ghost use Rattle.railway.specs.Decoders.{decoder_of, is_loco, is_module, module_index};
-ghost use Rattle.railway.specs.Faults.{fault_of_block, fault_of_blocks, fault_of_joints, fault_of_motors, fault_of_track, fault_of_train, fault_of_trains, fault_of_turnouts, has_decoder, is_renamed};
+ghost use Rattle.railway.specs.Faults.{fault_of_block, fault_of_blocks, fault_of_joints, fault_of_motors, fault_of_track, fault_of_all_trains, fault_of_train, fault_of_trains, fault_of_turnouts, has_decoder, is_renamed};
 
 use crate::block::{Block, BlockEnd, LONGEST_BLOCK};
 use crate::fault::{Part, PlanFault};
 use crate::joint::{Joint, Turnout};
+use crate::passing::fault_of_speeds;
 use crate::placement::has_front;
 use crate::plan::{MAX_JOINTS, MAX_TURNOUTS, Plan};
 use crate::track::Track;
@@ -224,12 +225,20 @@ fn is_module(number: u16, spec: &NodeSpec) -> bool
 }
 
 impl Track {
-    /// Returns the first fault of the trains of a plan for a layout with these decoders.
-    pub(crate) fn fault_of_trains(
+    /// Returns the first fault of the trains of a plan for a layout with these decoders: of each in
+    /// turn, and then of their speeds.
+    pub(crate) fn fault_of_all_trains(
         &self,
         decoders: &[NodeSpec],
         trains: &[Train],
     ) -> Option<PlanFault>
+        ensures { result ≡ fault_of_all_trains decoders.now self.now trains.now }
+    {
+        self.fault_of_trains(decoders, trains)
+            .or_else(|| fault_of_speeds(self.blocks.as_slice(), trains))
+    }
+
+    fn fault_of_trains(&self, decoders: &[NodeSpec], trains: &[Train]) -> Option<PlanFault>
         ensures { result ≡ fault_of_trains decoders.now self.now 0 trains.now }
     {
         for (i, train) in trains.iter().enumerate() {

@@ -41,6 +41,13 @@ pub enum PlanFault {
         decoder: u8,
         block: Name,
     },
+    /// The train, which has this decoder, could enter the block of this name, the first of the
+    /// shortest, and leave it again within a turn.
+    FastTrain {
+        train: usize,
+        decoder: u8,
+        block: Name,
+    },
 }
 
 /// Why a train was not placed.

@@ -1,8 +1,9 @@
 //! The laws of a railway, each as a function that does nothing and ensures it: a call hands the
 //! law to a proof.
-ghost use Rattle.std.specs.Prelude.{◌≡◌, ◌≢◌, ◌↔◌, ℕ, ◌+◌, ◌*◌, ◌/◌, ◌<◌, ◌≤◌, Bool, List, length, map, not, true, false, IfSome, IsTrue, Some, None};
+ghost use Rattle.std.specs.Prelude.{◌≡◌, ◌≢◌, ◌↔◌, ◌⊎◌, ℕ, ◌+◌, ◌*◌, ◌/◌, ◌<◌, ◌≤◌, Bool, List, length, map, not, true, false, IfSome, IsTrue, Some, None};
 ghost use Rattle.std.specs.List.{slice_index_or};
 ghost use Rattle.dcc_packet.specs.declared.steps.Motion.TheVariants.{Emergency, Stop};
+ghost use Rattle.decoder_node.specs.declared.node.NodeSpec.{NodeSpec};
 ghost use Rattle.decoder_node.specs.declared.running.Running.{Running};
 ghost use Rattle.layout_core.specs.declared.node.Node.{Node};
 ghost use Rattle.motion.specs.Velocity.{braking_way, is_momentum, same_bool, velocity};
@@ -15,6 +16,7 @@ ghost use Rattle.railway.specs.declared.exit.Exit.TheVariants.{Leads, Against as
 ghost use Rattle.railway.specs.declared.exit.Onward.TheVariants.{BufferStop, Against};
 ghost use Rattle.railway.specs.declared.failing_sensors.FailingSensors.{FailingSensors};
 ghost use Rattle.railway.specs.declared.joint.TurnoutState.{TurnoutState};
+ghost use Rattle.railway.specs.declared.plan.Plan.{Plan};
 ghost use Rattle.railway.specs.declared.train.Place.{Place};
 ghost use Rattle.railway.specs.declared.train.TrainState.{TrainState};
 ghost use Rattle.railway.specs.Blocks.{default_block, length_of};
@@ -23,6 +25,8 @@ ghost use Rattle.railway.specs.Driven.{AllLeaveAlone, AreDrivenBy, HasRun, time_
 ghost use Rattle.railway.specs.Course.{Happening, after, after_all, reports_of_all};
 ghost use Rattle.railway.specs.Laws.{AreChanges, HasAllBlocks, IsConflict, IsOnRails, IsOnWay, StandsBetween, is_failure, is_moving_end, is_sensor_failure, leading, moved_on_under, runs_only, speed_times_time, train_after, velocity_of, way_of};
 ghost use Rattle.railway.specs.Failures.{failing_by, has_switch, none_failing, with_sensor};
+ghost use Rattle.railway.specs.Faults.{fault_of};
+ghost use Rattle.railway.specs.Passing.{GoesShort, IsOfPlan, is_no_faster, longest_turn};
 ghost use Rattle.railway.specs.Network.{Network, exit_of, is_sound, lies, onward, switch_at, way_on};
 ghost use Rattle.railway.specs.Places.{end_ahead, is_derailed, leading_end, span, still, to_end};
 ghost use Rattle.railway.specs.Railway.{RailwayState, elapsed, is_piece, is_railway, is_sensed, is_train, laid_in, ran_in, reports_in, run_in, run_under};
@@ -327,6 +331,34 @@ pub fn reports_are_changes()
         → AreChanges railway.network.blocks (is_sensed railway)
         (is_sensed (elapsed railway micros power nodes)) (reports_in railway micros power nodes) }
 {}
+
+/// Nothing passes unseen: a block in which a part of a train is at a moment of a time is occupied at
+/// the start of that time or at its end, if the train goes one way meanwhile and less far than the
+/// block and the train together are long, whatever turnouts do.
+pub fn nothing_passes_unseen()
+    ensures seen { (railway : RailwayState) (micros moment : ℕ) (power : Power)
+        (nodes : List Node) (i block : ℕ) (none : TrainState)
+        → IsTrue (is_railway railway) → i < length railway.trains → moment ≤ micros
+        → GoesShort railway.network.blocks nodes micros block
+        (slice_index_or railway.trains i none)
+        → IsTrue (occupies block (slice_index_or (elapsed railway moment power nodes).trains i none))
+        → IsTrue (occupies block (slice_index_or railway.trains i none))
+        ⊎ IsTrue (occupies block
+        (slice_index_or (elapsed railway micros power nodes).trains i none)) }
+    // So far goes no train of a plan without a fault in the time of a turn, unless it is faster than
+    // at its last step, and it never is.
+    ensures short { (specs : List NodeSpec) (plan : Plan) (block micros : ℕ) (nodes : List Node)
+        (train : TrainState) → fault_of specs plan ≡ None → micros ≤ longest_turn
+        → IsOfPlan plan train → block < length plan.blocks.items
+        → IsTrue (is_no_faster nodes train)
+        → way_of nodes micros train
+        < train.length * 1000000000000 + length_of plan.blocks.items block }
+    ensures slow { (power : Power) (network : Network) (micros : ℕ) (nodes : List Node)
+        (train : TrainState) → IsTrue (is_no_faster nodes train)
+        → IsTrue (is_no_faster nodes (run_under power network micros nodes train)) }
+{
+    motion::laws::times_add_up();
+}
 
 /// A conflict is reported of a block exactly if two different trains are in it.
 pub fn conflicts_are_two_trains()

@@ -30,6 +30,7 @@ mod fault;
 mod joint;
 pub mod laws;
 mod moving;
+mod passing;
 mod placement;
 mod plan;
 mod railway;

@@ -74,7 +74,7 @@ impl Railway {
             joints: plan.joints,
             turnouts,
         };
-        match track.fault_of_trains(decoders, plan.trains.as_slice()) {
+        match track.fault_of_all_trains(decoders, plan.trains.as_slice()) {
             Some(fault) => return Err(fault),
             None => {}
         }

@@ -13,7 +13,7 @@ use Rattle.railway_plan.specs.declared.fault.PlanTextFault.{PlanTextFault}
 use Rattle.railway_plan.specs.declared.fault.Section.{Section}
 use Rattle.railway_plan.specs.declared.fault.Section.TheVariants.{Whole, Block, Joint, Turnout, Train}
 use Rattle.railway_plan.specs.declared.fault.Why.{Why}
-use Rattle.railway_plan.specs.declared.fault.Why.TheVariants.{NotToml, UnknownKey, BadKey, TooMany, NotTable, UnknownEnd, UnknownBlock, UnknownDecoder, RepeatedName, RepeatedSensor, RepeatedEnd, NoDecoder, RepeatedDecoder, OffTrack, LongTrain, NoMemory}
+use Rattle.railway_plan.specs.declared.fault.Why.TheVariants.{NotToml, UnknownKey, BadKey, TooMany, NotTable, UnknownEnd, UnknownBlock, UnknownDecoder, RepeatedName, RepeatedSensor, RepeatedEnd, NoDecoder, RepeatedDecoder, OffTrack, LongTrain, FastTrain, NoMemory}
 use Rattle.railway_plan.specs.declared.key.Key.{Key}
 use Rattle.railway_plan.specs.declared.key.Key.TheVariants as key
 use Rattle.railway_plan.specs.Format.{Text, block_keys, spelled, top_keys, train_keys, turnout_keys, value_at}
@@ -102,6 +102,7 @@ word_at (RepeatedEnd end) place whole = None
 word_at NoDecoder place whole = None
 word_at RepeatedDecoder place whole = None
 word_at LongTrain place whole = None
+word_at FastTrain place whole = None
 word_at NoMemory place whole = None
 
 -- there is something for which this holds
@@ -203,6 +204,7 @@ other_at NotTable place whole = None
 other_at UnknownDecoder place whole = None
 other_at NoDecoder place whole = None
 other_at LongTrain place whole = None
+other_at FastTrain place whole = None
 other_at NoMemory place whole = None
 
 -- the details of a fault of a text with this table

@@ -15,7 +15,7 @@ use Rattle.railway_plan.specs.declared.fault.Section.{Section}
 use Rattle.railway_plan.specs.declared.fault.Section.TheVariants.{Block, Joint, Turnout, Train}
 use Rattle.railway_plan.specs.declared.fault.TrainNames.{TrainNames}
 use Rattle.railway_plan.specs.declared.fault.Why.{Why}
-use Rattle.railway_plan.specs.declared.fault.Why.TheVariants.{BadKey, UnknownBlock, RepeatedName, RepeatedSensor, RepeatedEnd, NoDecoder, RepeatedDecoder, LongTrain, OffTrack}
+use Rattle.railway_plan.specs.declared.fault.Why.TheVariants.{BadKey, UnknownBlock, RepeatedName, RepeatedSensor, RepeatedEnd, NoDecoder, RepeatedDecoder, LongTrain, FastTrain, OffTrack}
 use Rattle.railway_plan.specs.declared.key.Key.TheVariants.{Acceleration, Length, Sensor}
 use Rattle.railway_plan.specs.Entries.{plan_entries}
 use Rattle.railway_plan.specs.Format.{Text, plan_in}
@@ -43,6 +43,7 @@ section_at (bad.TrainLength i) = Train (number_of i)
 section_at (bad.Momentum i) = Train (number_of i)
 section_at (bad.OffTrack i) = Train (number_of i)
 section_at (bad.LongTrain train decoder block) = Train (number_of train)
+section_at (bad.FastTrain train decoder block) = Train (number_of train)
 
 abbrev pub why_of : PlanFault → Why
 why_of (bad.BlockLength i) = BadKey Length
@@ -57,6 +58,7 @@ why_of (bad.TrainLength i) = BadKey Length
 why_of (bad.Momentum i) = BadKey Acceleration
 why_of (bad.OffTrack i) = OffTrack
 why_of (bad.LongTrain train decoder block) = LongTrain
+why_of (bad.FastTrain train decoder block) = FastTrain
 
 -- the name of the train of a decoder of the roster, and this one of a block
 abbrev pub AreNames : List Entry → (decoder : ℕ) → (block : ArrayString) → Option TrainNames
@@ -65,9 +67,11 @@ AreNames entries decoder block None = ⊥
 AreNames entries decoder block (Some names) =
     (names.train.bytes ≡ decoder_name (slice_get entries decoder)) × (names.block ≡ block)
 
--- if a train is too long, its name, and that of the block in which the track behind it ends
+-- If a train is too long, its name, and that of the block in which the track behind it ends. If it is
+-- too fast, its name, and that of the shortest block.
 abbrev pub HasNames : List Entry → PlanFault → Option TrainNames → Type 0
 HasNames entries (bad.LongTrain train decoder block) names = AreNames entries decoder block names
+HasNames entries (bad.FastTrain train decoder block) names = AreNames entries decoder block names
 HasNames entries (bad.BlockLength i) names = names ≡ None
 HasNames entries (bad.NameTwice i) names = names ≡ None
 HasNames entries (bad.Sensor i) names = names ≡ None

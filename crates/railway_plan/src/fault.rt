@@ -46,6 +46,8 @@ pub enum Why {
     OffTrack,
     /// The track behind the train ends before the train does.
     LongTrain,
+    /// The train could pass the shortest block within a turn, so that no sensor reports it.
+    FastTrain,
     /// Out of memory.
     NoMemory,
 }
@@ -65,11 +67,11 @@ pub enum Section {
 pub struct PlanTextFault {
     pub section: Section,
     pub why: Why,
-    /// If a train is too long, the names of the train and of a block.
+    /// If a train is too long or too fast, the names of the train and of a block.
     pub names: Option<TrainNames>,
 }
 
-/// The name of a train, and that of the block in which the track behind it ends.
+/// The name of a train, and that of the block in which the track behind it ends, or of the shortest.
 #[derive(Clone, Copy)]
 pub struct TrainNames {
     pub train: TrainName,
@@ -123,6 +125,7 @@ fn place_of(fault: PlanFault) -> (Section, Why)
         PlanFault::Momentum(i) => (Section::Train(number_of(i)), Why::BadKey(Key::Acceleration)),
         PlanFault::OffTrack(i) => (Section::Train(number_of(i)), Why::OffTrack),
         PlanFault::LongTrain { train, .. } => (Section::Train(number_of(train)), Why::LongTrain),
+        PlanFault::FastTrain { train, .. } => (Section::Train(number_of(train)), Why::FastTrain),
     }
 }
 
@@ -135,15 +138,17 @@ fn train_name(roster: &Roster, decoder: u8) -> TrainName
     name
 }
 
-/// Returns the names of a train of a plan that is too long, and of a block; none of another fault.
+/// Returns the names of a train of a plan that is too long or too fast, and of a block; none of
+/// another fault.
 fn names_of(roster: &Roster, fault: &PlanFault) -> Option<TrainNames>
     ensures { HasNames roster.now fault.now result }
 {
     match fault {
-        PlanFault::LongTrain { decoder, block, .. } => Some(TrainNames {
-            train: train_name(roster, *decoder),
-            block: *block,
-        }),
+        PlanFault::LongTrain { decoder, block, .. } | PlanFault::FastTrain { decoder, block, .. } =>
+            Some(TrainNames {
+                train: train_name(roster, *decoder),
+                block: *block,
+            }),
         _ => None,
     }
 }
@@ -200,6 +205,7 @@ fn words_of(why: Why) -> &'static str {
         Why::RepeatedDecoder => "another train has this decoder",
         Why::OffTrack => "its front is not in its block",
         Why::LongTrain => "longer than the track behind it",
+        Why::FastTrain => "too fast for the shortest block",
         Why::NoMemory => "no memory",
         Why::BadKey(_) | Why::TooMany(_) | Why::UnknownEnd { .. } => "",
     }

@@ -8,11 +8,11 @@ use Rattle.railway.specs.declared.joint.TurnoutState.{TurnoutState}
 use Rattle.railway.specs.declared.plan.Plan.{Plan}
 use Rattle.railway.specs.declared.train.Train.{Train}
 use Rattle.railway.specs.declared.train.TrainState.{TrainState}
-use Rattle.railway.specs.Faults.{fault_of_track, fault_of_trains}
+use Rattle.railway.specs.Faults.{fault_of_all_trains, fault_of_track, fault_of_trains}
 use Rattle.railway.specs.Network.{Network, is_sound}
 use Rattle.railway.specs.Railway.{is_train}
 use Rattle.railway.specs.Turnouts.{network_of, state_of_turnout}
-use Rattle.railway.proofs.Planning.{planned-sound, sound_trains, trains_in_blocks}
+use Rattle.railway.proofs.Planning.{or-none, planned-sound, sound_trains, trains_in_blocks}
 use Rattle.railway.proofs.railway.Railway.new.Goals as goal
 
 -- The track has no fault, and its turnouts are those of the definition.
@@ -34,16 +34,18 @@ pub train_states-trains-requires-clause-in_blocks : goal.train_states-trains-req
 train_states-trains-requires-clause-in_blocks c =
     let specs = c.as_slice-decoders.result.now in
     let n : Network = record (network_of specs c.args.plan) { turnouts = c.turnout_states-turnouts.result.items } in
-    let none : fault_of_trains specs n 0 c.as_slice-3.result.now ≡ None =
-    ap (λ (ts : List Train). fault_of_trains specs n 0 ts) (c.as_slice-3.ensures.value ∙ sym c.as_slice-2.ensures.value) ∙ sym c.fault_of_trains.ensures ∙ c.in-None-fault_of_trains.is in
+    let all : fault_of_all_trains specs n c.as_slice-3.result.now ≡ None =
+    ap (λ (ts : List Train). fault_of_all_trains specs n ts) (c.as_slice-3.ensures.value ∙ sym c.as_slice-2.ensures.value) ∙ sym c.fault_of_all_trains.ensures ∙ c.in-None-fault_of_all_trains.is in
+    let none = (or-none (fault_of_trains specs n 0 c.as_slice-3.result.now) _ all).0 in
     trains_in_blocks specs n 0 c.as_slice-3.result.now none
 
 pub invariant_of-result : goal.invariant_of-result
 invariant_of-result c =
     let specs = c.as_slice-decoders.result.now in
     let n : Network = record (network_of specs c.args.plan) { turnouts = c.turnout_states-turnouts.result.items } in
-    let none : fault_of_trains specs n 0 c.as_slice-3.result.now ≡ None =
-    ap (λ (ts : List Train). fault_of_trains specs n 0 ts) (c.as_slice-3.ensures.value ∙ sym c.as_slice-2.ensures.value) ∙ sym c.fault_of_trains.ensures ∙ c.in-None-fault_of_trains.is in
+    let all : fault_of_all_trains specs n c.as_slice-3.result.now ≡ None =
+    ap (λ (ts : List Train). fault_of_all_trains specs n ts) (c.as_slice-3.ensures.value ∙ sym c.as_slice-2.ensures.value) ∙ sym c.fault_of_all_trains.ensures ∙ c.in-None-fault_of_all_trains.is in
+    let none = (or-none (fault_of_trains specs n 0 c.as_slice-3.result.now) _ all).0 in
     let sound : IsTrue (is_sound n) =
     sound_track specs c.args.plan c.turnout_states-turnouts.result.items (sym c.fault_of_track.ensures ∙ c.in-None.is)
     (c.turnout_states-turnouts.ensures ∙ ap (λ (ts : List Turnout). map (state_of_turnout specs) ts) c.as_slice.ensures.value) in
