@@ -109,7 +109,7 @@ impl Track {
             Some(back) => back,
             None => front.turned(),
         };
-        self.marked(&TrainState {
+        let mut placed = TrainState {
             decoder: train.decoder,
             top: train.top,
             length: train.length,
@@ -119,7 +119,9 @@ impl Track {
             velocity: STANDSTILL,
             derailed_at: None,
             under: BlockSet::empty(),
-        })
+        };
+        self.mark(&mut placed);
+        placed
     }
 }
 

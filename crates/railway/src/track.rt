@@ -4,7 +4,7 @@ ghost use Rattle.std.specs.List.{list_all, list_any};
 ghost use Rattle.motion.specs.Velocity.{is_drive};
 ghost use Rattle.railway.specs.Blocks.{length_of, no_blocks};
 ghost use Rattle.railway.specs.Network.{LeadsOn, LeadsToPlan, across, as_joint, covered, exit_of, first_at, is_against, is_branch, is_end_of, joined, joints_of, last_on, leaves_at, marked, off_rails, onward, partner, place_of, run_on, switch_at, way_on};
-ghost use Rattle.railway.specs.Places.{is_on_track, start_at, to_end};
+ghost use Rattle.railway.specs.Places.{is_on_track, start_at, to_end, turned};
 ghost use Rattle.railway.specs.Running.{can_run, is_within};
 ghost use Rattle.railway.specs.Turnouts.{is_moved_end};
 
@@ -334,15 +334,12 @@ impl Track {
         self.follow(place, way).place
     }
 
-    /// Returns the train, which then knows the blocks from its rear to its front.
-    pub(crate) fn marked(&self, train: &TrainState) -> TrainState
-        requires { IsTrue (is_on_track self.now.blocks train.now.rear) }
-        ensures { result ≡ marked self.now train.now }
+    /// Lets the train know the blocks from its rear to its front.
+    pub(crate) fn mark(&self, train: &mut TrainState)
+        requires { IsTrue (is_on_track self.now.blocks train.old.rear) }
+        ensures { train.new ≡ marked self.now train.old }
     {
-        TrainState {
-            under: self.follow(train.rear, train.span()).blocks,
-            ..*train
-        }
+        train.under = self.follow(train.rear, train.span()).blocks;
     }
 
     /// Whether a way goes on over an end of a turnout that its decoder moves to its other side.
@@ -381,52 +378,51 @@ impl Track {
         }
     }
 
-    /// Runs a train forward for some of the way, at most into the next blocks. Returns the train
-    /// and the way that is left.
-    fn run_some(&self, train: &TrainState, way: u64) -> (TrainState, u64)
-        requires within { IsTrue (is_within self.now.blocks train.now) }
+    /// Runs a train forward for some of the way, at most into the next blocks. Returns the way that
+    /// is left.
+    fn run_some(&self, train: &mut TrainState, way: u64) -> u64
+        requires within { IsTrue (is_within self.now.blocks train.old) }
         requires goes { 0 < way }
-        ensures run { run_on self.now train.now way ≡ run_on self.now result.0 result.1 }
-        ensures within { IsTrue (is_within self.now.blocks result.0) }
-        ensures less { result.1 < way }
+        ensures run { run_on self.now train.old way ≡ run_on self.now train.new result }
+        ensures within { IsTrue (is_within self.now.blocks train.new) }
+        ensures less { result < way }
     {
         if train.is_derailed() {
-            return (*train, 0);
+            return 0;
         }
         let ahead = self.to_end(train.front).min(self.to_end(train.rear));
         if ahead > 0 {
             let moved = ahead.min(way);
-            return (train.moved(moved), way - moved);
+            train.go(moved);
+            return way - moved;
         }
         match self.onward(train.front) {
-            Onward::BufferStop => (*train, 0),
-            Onward::Against => (self.off_rails(train, train.front), 0),
+            Onward::BufferStop => 0,
+            Onward::Against => {
+                *train = self.off_rails(train, train.front);
+                0
+            }
             Onward::To(front) => match self.onward(train.rear) {
                 Onward::To(rear) => {
-                    let next = TrainState {
-                        front,
-                        rear,
-                        ..*train
-                    };
-                    (next, way - 1)
+                    train.front = front;
+                    train.rear = rear;
+                    way - 1
                 }
-                _ => (*train, 0),
+                _ => 0,
             },
         }
     }
 
     /// Runs a train forward by so many femtometres.
-    fn run_on(&self, train: &TrainState, way: u64) -> TrainState
-        requires { IsTrue (is_within self.now.blocks train.now) }
-        ensures run { result ≡ run_on self.now train.now way }
-        ensures within { IsTrue (is_within self.now.blocks result) }
+    fn run_on(&self, train: &mut TrainState, way: u64)
+        requires { IsTrue (is_within self.now.blocks train.old) }
+        ensures run { train.new ≡ run_on self.now train.old way }
+        ensures within { IsTrue (is_within self.now.blocks train.new) }
     {
-        let mut train = *train;
         let mut left = way;
         while left > 0 {
-            (train, left) = self.run_some(&train, left);
+            left = self.run_some(train, left);
         }
-        train
     }
 }
 
@@ -436,54 +432,61 @@ impl Track {
     ghost use Rattle.railway.specs.Running.{moved_at, ridden, run_for};
     ghost use Rattle.railway.specs.Turnouts.{checked};
 
-    /// Returns a train that has run for a part of a time in which it goes in one direction. A derailed
-    /// train stays where it is.
-    fn moved(&self, train: &TrainState, leg: Leg) -> TrainState
-        requires runs { IsTrue (can_run self.now.blocks train.now) }
+    /// Runs a train for a part of a time in which it goes in one direction. A derailed one stays where
+    /// it is.
+    fn run_leg(&self, train: &mut TrainState, leg: Leg)
+        requires runs { IsTrue (can_run self.now.blocks train.old) }
         requires slow { leg.velocity.speed ≤ 2199023255552 }
-        ensures moved { result ≡ moved_at self.now leg.velocity leg.way train.now }
-        ensures runs { IsTrue (can_run self.now.blocks result) }
+        ensures moved { train.new ≡ moved_at self.now leg.velocity leg.way train.old }
+        ensures runs { IsTrue (can_run self.now.blocks train.new) }
     {
         if train.is_derailed() {
-            return *train;
+            return;
         }
-        let train = TrainState {
-            velocity: leg.velocity,
-            ..*train
-        };
+        train.velocity = leg.velocity;
         if leg.velocity.forward {
-            self.run_on(&train, leg.way)
+            self.run_on(train, leg.way);
         } else {
-            self.run_on(&train.turned(), leg.way).turned()
+            self.run_back(train, leg.way);
         }
     }
 
-    /// Returns a train that has run for `micros` microseconds in which this is asked of it.
-    fn ridden(&self, train: &TrainState, drive: Drive, micros: u32) -> TrainState
-        requires runs { IsTrue (can_run self.now.blocks train.now) }
-        requires drive { IsTrue (is_drive drive) }
-        ensures ridden { result ≡ ridden self.now drive micros train.now }
-        ensures runs { IsTrue (can_run self.now.blocks result) }
+    /// Runs a train backward by so many femtometres: seen from behind, its rear leads.
+    fn run_back(&self, train: &mut TrainState, way: u64)
+        requires { IsTrue (is_within self.now.blocks train.old) }
+        ensures run { train.new ≡ turned (run_on self.now (turned train.old) way) }
+        ensures within { IsTrue (is_within self.now.blocks train.new) }
     {
-        let mut train = *train;
+        *train = train.turned();
+        self.run_on(train, way);
+        *train = train.turned();
+    }
+
+    /// Lets a train run for `micros` microseconds in which this is asked of it.
+    fn ride(&self, train: &mut TrainState, drive: Drive, micros: u32)
+        requires runs { IsTrue (can_run self.now.blocks train.old) }
+        requires drive { IsTrue (is_drive drive) }
+        ensures ridden { train.new ≡ ridden self.now drive micros train.old }
+        ensures runs { IsTrue (can_run self.now.blocks train.new) }
+    {
         let mut left = micros;
         while left > 0 {
             let leg = train.velocity.leg(drive, left);
-            train = self.moved(&train, leg);
+            self.run_leg(train, leg);
             left -= leg.micros;
         }
-        train
     }
 
-    /// Returns a train that has run for `micros` microseconds as its decoder runs. A derailed one stands.
-    fn run_for(&self, train: &TrainState, micros: u32, running: Option<Running>) -> TrainState
-        requires { IsTrue (can_run self.now.blocks train.now) }
-        ensures { result ≡ run_for self.now micros running train.now }
+    /// Lets a train run for `micros` microseconds as its decoder runs. A derailed one stands.
+    fn run_for(&self, train: &mut TrainState, micros: u32, running: Option<Running>)
+        requires { IsTrue (can_run self.now.blocks train.old) }
+        ensures { train.new ≡ run_for self.now micros running train.old }
     {
         if train.is_derailed() {
-            return *train;
+            return;
         }
-        self.marked(&self.ridden(train, drive(train, running), micros))
+        self.ride(train, drive(train, running), micros);
+        self.mark(train);
     }
 
     /// Lets `micros` microseconds pass for these trains: each runs as its decoder runs.
@@ -493,29 +496,30 @@ impl Track {
             ≡ map (run_under world.now.station.powered.power self.now micros world.now.nodes)
             trains.old }
     {
-        for i in 0..trains.len() {
-            trains[i] = self.run_under(&trains[i], micros, world);
+        for train in trains.iter_mut() {
+            self.run_under(train, micros, world);
         }
     }
 
-    /// Returns this train after `micros` microseconds. Without track power it stands.
-    fn run_under(&self, train: &TrainState, micros: u32, world: &World) -> TrainState
-        requires { IsTrue (can_run self.now.blocks train.now) }
-        ensures { result
-            ≡ run_under world.now.station.powered.power self.now micros world.now.nodes train.now }
+    /// Lets `micros` microseconds pass for a train. Without track power it stands.
+    fn run_under(&self, train: &mut TrainState, micros: u32, world: &World)
+        requires { IsTrue (can_run self.now.blocks train.old) }
+        ensures { train.new
+            ≡ run_under world.now.station.powered.power self.now micros world.now.nodes train.old }
     {
         match world.station().power() {
-            Power::Off => train.still(),
+            Power::Off => *train = train.still(),
             Power::Running | Power::Paused => self.run_in(train, micros, world),
         }
     }
 
-    /// Returns this train after `micros` microseconds.
-    fn run_in(&self, train: &TrainState, micros: u32, world: &World) -> TrainState
-        requires { IsTrue (can_run self.now.blocks train.now) }
-        ensures { result ≡ run_in self.now micros world.now.nodes train.now }
+    /// The same with track power.
+    fn run_in(&self, train: &mut TrainState, micros: u32, world: &World)
+        requires { IsTrue (can_run self.now.blocks train.old) }
+        ensures { train.new ≡ run_in self.now micros world.now.nodes train.old }
     {
-        self.run_for(train, micros, running(world, train.decoder))
+        let running = running(world, train.decoder);
+        self.run_for(train, micros, running);
     }
 
     /// Returns how fast one of some trains runs, as [`Track::shown_speed`]; 0 if there is no such train.

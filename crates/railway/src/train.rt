@@ -154,17 +154,14 @@ impl TrainState {
         }
     }
 
-    /// Returns the train `way` femtometres ahead, with both ends in the same blocks.
-    pub(crate) fn moved(&self, way: u64) -> TrainState
-        requires front { self.now.front.at + way < 2 ^ 64 }
-        requires rear { self.now.rear.at + way < 2 ^ 64 }
-        ensures { result ≡ moved self.now way }
+    /// Moves the train `way` femtometres ahead, with both ends in the same blocks.
+    pub(crate) fn go(&mut self, way: u64)
+        requires front { self.old.front.at + way < 2 ^ 64 }
+        requires rear { self.old.rear.at + way < 2 ^ 64 }
+        ensures { self.new ≡ moved self.old way }
     {
-        TrainState {
-            front: self.front.further(way),
-            rear: self.rear.further(way),
-            ..*self
-        }
+        self.front.at = self.front.further(way).at;
+        self.rear.at = self.rear.further(way).at;
     }
 
     /// Returns the train where it is, at rest.
@@ -301,12 +298,13 @@ fn speed_at(top: u16, motion: Motion) -> u64
     match motion {
         Motion::Stop | Motion::Emergency => 0,
         Motion::Step { of, n } => {
-            let steps = match of {
-                Steps::S14 => 14,
-                Steps::S28 => 28,
-                Steps::S128 => 126,
+            let all = u64::from(top) * MILLIMETRE_A_SECOND * u64::from(n);
+            // Constants divide faster than a variable.
+            let speed = match of {
+                Steps::S14 => all / 14,
+                Steps::S28 => all / 28,
+                Steps::S128 => all / 126,
             };
-            let speed = u64::from(top) * MILLIMETRE_A_SECOND * u64::from(n) / steps;
             speed.min(FASTEST)
         }
     }

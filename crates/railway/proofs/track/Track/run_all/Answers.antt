@@ -5,11 +5,12 @@ use Rattle.railway.specs.declared.train.TrainState.{TrainState}
 use Rattle.railway.specs.Railway.{run_under}
 use Rattle.railway.proofs.track.Track.run_all.Goals as goal
 
-pub loop-i-preserved : goal.loop-i-preserved
-loop-i-preserved c =
+pub loop-train-preserved : goal.loop-train-preserved
+loop-train-preserved c =
     let nodes = c.args.world.now.nodes in
     let power = c.args.world.now.station.powered.power in
-    ap (λ (t : TrainState). slice_set c.loop-i.trains c.loop-i.i t) c.run_under.ensures
-    ∙ ap (λ (t : TrainState). slice_set c.loop-i.trains c.loop-i.i (run_under power c.args.self.now c.args.micros nodes t)) (sym c.index-trains-i.is)
-    ∙ map_over_more (λ (t : TrainState). run_under power c.args.self.now c.args.micros nodes t) c.args.trains.now c.loop-i.trains c.loop-i.i c.index-trains-i.result
-    c.loop-i-test.true c.loop-i.invariant c.index-trains-i.is
+    let i = c.loop-train.train-index in
+    ap (λ (t : TrainState). slice_set c.loop-train.trains i t) c.run_under.ensures
+    ∙ ap (λ (t : TrainState). slice_set c.loop-train.trains i (run_under power c.args.self.now c.args.micros nodes t)) (sym c.train-item.is)
+    ∙ map_over_more (λ (t : TrainState). run_under power c.args.self.now c.args.micros nodes t) c.args.trains.now c.loop-train.trains i c.train-item.result
+    c.loop-train-test.true c.loop-train.invariant c.train-item.is

@@ -20,7 +20,7 @@ returns-then-ahead-gt0-clause-run c =
     let rear : c.to_end-2.result ≡ to_end (length_of network.blocks train.rear.block) train.rear = c.to_end-2.ensures.ahead in
     run_on-part network train c.min-moved.result c.args.way (sym c.is_derailed.ensures.derailed ∙ c.if-is_derailed.false)
     (grind (arith, c.min-moved.ensures)) (grind (arith, c.min-moved.ensures, c.min-ahead.ensures, front)) (grind (arith, c.min-moved.ensures, c.min-ahead.ensures, rear))
-    ∙ ap (λ (t : TrainState). run_on network t (c.args.way - c.min-moved.result)) (sym c.moved.ensures)
+    ∙ ap (λ (t : TrainState). run_on network t (c.args.way - c.min-moved.result)) (sym c.go.ensures)
 
 pub returns-in-BufferStop-clause-run : goal.returns-in-BufferStop-clause-run
 unfolding run_on

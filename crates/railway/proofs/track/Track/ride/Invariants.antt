@@ -1,7 +1,7 @@
 use Rattle.std.proofs.Common.{◌≡◌}
 use Rattle.std.specs.Prelude.{IsTrue}
 use Rattle.railway.specs.Running.{can_run, ridden}
-use Rattle.railway.proofs.track.Track.ridden.Given as goal
+use Rattle.railway.proofs.track.Track.ride.Given as goal
 
 -- what is left of the time leads to where all of it leads
 abbrev pub invariant-loop-left : goal.invariant-loop-left
