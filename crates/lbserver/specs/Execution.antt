@@ -153,6 +153,10 @@ abbrev pub IsStopped : List (List ℕ) → (failed : Bool) → DeviceLogs → Ty
 IsStopped words failed logs =
     ((order : ServerOrder) × IsServerOrderOf words order × (logs.faults.failed ≡ true)) ⊎ (AsksServer words × (failed ≡ true))
 
+-- nothing was served: no call of the sockets and of the clock returned anything
+abbrev pub IsUnserved : DeviceLogs → Type 0
+IsUnserved logs = (logs.sockets.events ≡ []) × (logs.clock.readings ≡ [])
+
 -- A run of an order, which names a file or none, ended with this fault: not for the words; for a file only if one is named;
 -- once standard output could not be written, with status 4; and with that only if a call of the system failed.
 abbrev pub EndsBy : (named failed faulted : Bool) → ServerFault → Type 0

@@ -4,7 +4,7 @@ ghost use Rattle.std.specs.Io.KnownBytes.{Appends};
 ghost use Rattle.command_line.specs.Requests.{is_request};
 ghost use Rattle.console.specs.declared.fault.RunFault.TheVariants.{NoMemory};
 ghost use Rattle.lbserver.specs.declared.fault.ServerFault.TheVariants.{Order, Output, Run};
-ghost use Rattle.lbserver.specs.Execution.{ended_by_output};
+ghost use Rattle.lbserver.specs.Execution.{ended_by_output, status_of};
 
 use crate::fault::ServerFault;
 use crate::standard_output::StandardOutput;
@@ -29,6 +29,7 @@ pub(crate) fn answer<O: Write>(
     ensures output { output.new.failed ≡ ended_by_output result }
     ensures failed { is_request fault ≡ true
         → IfErr result (λ e. (e ≡ Output) ⊎ (e ≡ Run NoMemory)) }
+    ensures starved { IfErr result (λ e. status_of e ≡ 6 → output.new ≡ output.old) }
     ensures kept { is_request fault ≡ false
         → (result ≡ Err (Order fault)) × (output.new ≡ output.old) }
 {

@@ -1,5 +1,6 @@
 //! What the devices of a run returned, which only proofs see.
 ghost use Rattle.std.specs.Prelude.{◌≡◌, false, true};
+ghost use Rattle.lbserver.specs.Execution.{IsUnserved};
 
 use sockets::{CallLog, SystemFault};
 
@@ -18,7 +19,8 @@ pub(crate) struct DeviceLogs {
 impl DeviceLogs {
     /// Creates the logs of devices that were not called yet.
     pub(crate) fn new() -> DeviceLogs
-        ensures { result.faults.failed ≡ false }
+        ensures faults { result.faults.failed ≡ false }
+        ensures new { IsUnserved result }
     {
         DeviceLogs {
             sockets: CallLog::new(),
@@ -29,7 +31,8 @@ impl DeviceLogs {
 
     /// Records that a call of the system failed.
     pub(crate) fn record_fault(&mut self, fault: SystemFault)
-        ensures { self.new.faults.failed ≡ true }
+        ensures recorded { self.new.faults.failed ≡ true }
+        ensures calls { (self.new.sockets ≡ self.old.sockets) × (self.new.clock ≡ self.old.clock) }
     {
         self.faults.record_fault(fault);
     }

@@ -6,7 +6,7 @@ ghost use Rattle.bus_server.specs.Running.{run_snapshot};
 ghost use Rattle.bus_server.specs.Snapshots.{state_of};
 ghost use Rattle.bus_server.specs.SoFar.{IsBeginning};
 ghost use Rattle.console.specs.Files.{IsRosterOf};
-ghost use Rattle.lbserver.specs.Execution.{AreNoOrder, HasPace, IsEnd, IsReady, IsStopped, NameFile, RunsWords, ServesBy, ServesLogged, ServesOrder, ServesPlan, ServesProgrammer, clients_of, entries_in, is_of_file, logs_of, names_file, pace_of, status_of};
+ghost use Rattle.lbserver.specs.Execution.{AreNoOrder, HasPace, IsEnd, IsReady, IsStopped, IsUnserved, NameFile, RunsWords, ServesBy, ServesLogged, ServesOrder, ServesPlan, ServesProgrammer, clients_of, entries_in, is_of_file, logs_of, names_file, pace_of, status_of};
 ghost use Rattle.server_orders.specs.declared.words.ServerOrder.{ServerOrder as OrderValue};
 
 use crate::answering::answer;
@@ -54,6 +54,7 @@ pub(crate) fn execute<O: Write, E: Write>(
     logs: &mut DeviceLogs,
 ) -> u8
     requires works { output.old.failed ≡ false }
+    requires new { IsUnserved logs.old }
     ensures most { result ≤ 7 }
     // Status 0 is returned only after a whole run of the order, by which the logs of its sockets and
     // its clock grew, or where the arguments ask for help or the version, which is written to `output`.
@@ -68,10 +69,11 @@ pub(crate) fn execute<O: Write, E: Write>(
     ensures unread { (result ≡ 2) ⊎ (result ≡ 3)
         → NameFile (map (λ word. word.now) words.entry.now) }
     // Status 4 only where a call of the system failed in a run of an order, or where the text that
-    // the arguments ask for could not be written. Of status 6 nothing is said: what the allocator
-    // refuses is in no log.
+    // the arguments ask for could not be written.
     ensures stopped { result ≡ 4
         → IsStopped (map (λ word. word.now) words.entry.now) output.new.failed logs.new }
+    // Status 6 only before anything is served or printed. That the allocator refused is in no log.
+    ensures starved { result ≡ 6 → (output.new ≡ output.old) × IsUnserved logs.new }
     ensures quiet { result ≡ 0 → faults.new ≡ faults.old }
     // No write of the output failed if the status is 0; if one failed, the status is 4 or 7.
     ensures written { result ≡ 0 → output.new.failed ≡ false }
@@ -106,6 +108,7 @@ fn run<O: Write>(
     logs: &mut DeviceLogs,
 ) -> Result<(), ServerFault>
     requires works { output.old.failed ≡ false }
+    requires new { IsUnserved logs.old }
     ensures serves { OnOk result (RunsWords (map (λ word. word.now) words.entry.now)
         (O.contents output.old.writer) (O.contents output.new.writer) logs.new) }
     ensures refuses { IfErr result (λ fault. status_of fault ≡ 1
@@ -116,6 +119,8 @@ fn run<O: Write>(
         → IsStopped (map (λ word. word.now) words.entry.now) output.new.failed logs.new) }
     ensures unwritten { IfErr result (λ fault. output.new.failed ≡ true
         → status_of fault ≡ 4) }
+    ensures starved { IfErr result (λ fault. status_of fault ≡ 6
+        → (output.new ≡ output.old) × IsUnserved logs.new) }
 {
     match server_order(rt.alloc(), words) {
         Ok(mut order) => with_roster(rt, &mut order, output, logs),
@@ -131,11 +136,14 @@ fn with_roster<O: Write>(
     logs: &mut DeviceLogs,
 ) -> Result<(), ServerFault>
     requires works { output.old.failed ≡ false }
+    requires new { IsUnserved logs.old }
     requires pace { HasPace order.old }
     ensures serves { OnOk result
         ((roster : _) × IsRosterOf order.old.roster roster
         × ServesPlan order.old (entries_in roster) logs.new) }
     ensures end { IsEnd (names_file order.old) output.new.failed logs.new.faults.failed result }
+    ensures starved { IfErr result (λ fault. status_of fault ≡ 6
+        → (output.new ≡ output.old) × IsUnserved logs.new) }
 {
     let roster = read_roster(rt, order.roster.take())?;
     with_plan(rt, order, roster.as_ref(), output, logs)
@@ -150,9 +158,12 @@ fn with_plan<O: Write>(
     logs: &mut DeviceLogs,
 ) -> Result<(), ServerFault>
     requires works { output.old.failed ≡ false }
+    requires new { IsUnserved logs.old }
     requires pace { HasPace order.old }
     ensures serves { OnOk result (ServesPlan order.old (entries_of roster.entry) logs.new) }
     ensures end { IsEnd (names_file order.old) output.new.failed logs.new.faults.failed result }
+    ensures starved { IfErr result (λ fault. status_of fault ≡ 6
+        → (output.new ≡ output.old) × IsUnserved logs.new) }
 {
     let railway = read_railway(rt, order.plan.take(), roster)?;
     with_programming(rt, order, roster, railway, output, logs)
@@ -168,10 +179,13 @@ fn with_programming<O: Write>(
     logs: &mut DeviceLogs,
 ) -> Result<(), ServerFault>
     requires works { output.old.failed ≡ false }
+    requires new { IsUnserved logs.old }
     requires pace { HasPace order.old }
     ensures serves { OnOk result
         (ServesProgrammer order.old (entries_of roster.entry) railway logs.new) }
     ensures end { IsEnd (names_file order.old) output.new.failed logs.new.faults.failed result }
+    ensures starved { IfErr result (λ fault. status_of fault ≡ 6
+        → (output.new ≡ output.old) × IsUnserved logs.new) }
 {
     let programming = read_programming(rt, order.programmer.take())?;
     with_server(rt, order, roster, railway, programming, output, logs)
@@ -188,10 +202,13 @@ fn with_server<O: Write>(
     logs: &mut DeviceLogs,
 ) -> Result<(), ServerFault>
     requires works { output.old.failed ≡ false }
+    requires new { IsUnserved logs.old }
     requires pace { HasPace order.old }
     ensures serves { OnOk result
         (ServesOrder order.old (entries_of roster.entry) railway programming logs.new) }
     ensures end { IsEnd (names_file order.old) output.new.failed logs.new.faults.failed result }
+    ensures starved { IfErr result (λ fault. status_of fault ≡ 6
+        → (output.new ≡ output.old) × IsUnserved logs.new) }
 {
     let losses = Losses::new(order.lose, u64::from(order.seed));
     let pace = pace_of(order.turns, order.rate);
@@ -216,10 +233,13 @@ fn with_sockets<O: Write>(
     logs: &mut DeviceLogs,
 ) -> Result<(), ServerFault>
     requires works { output.old.failed ≡ false }
+    requires new { IsUnserved logs.old }
     requires ready { IsReady order.old (entries_of roster) server.old.hub }
     ensures serves { OnOk result (ServesOrder order.old (entries_of roster.entry)
         (state_of server.old.hub).railway (state_of server.old.hub).programming logs.new) }
     ensures end { IsEnd (names_file order.old) output.new.failed logs.new.faults.failed result }
+    ensures starved { IfErr result (λ fault. status_of fault ≡ 6
+        → (output.new ≡ output.old) × IsUnserved logs.new) }
 {
     let address = SocketAddr::from((order.address, order.port));
     let mut sockets = match Sockets::bind(rt, address) {
@@ -243,12 +263,15 @@ fn with_page<O: Write>(
     logs: &mut DeviceLogs,
 ) -> Result<(), ServerFault>
     requires works { output.old.failed ≡ false }
+    requires readings { logs.old.clock.readings ≡ [] }
     requires ready { IsReady order.old (entries_of roster) server.old.hub }
     requires new { sockets.old.log.events ≡ [] }
     ensures serves { OnOk result (ServesBy order.old (entries_of roster.entry)
         (state_of server.old.hub).railway (state_of server.old.hub).programming
         sockets.new.log.events logs.new.clock.readings) }
     ensures end { IsEnd (names_file order.old) output.new.failed logs.new.faults.failed result }
+    ensures starved { IfErr result (λ fault. status_of fault ≡ 6 → (output.new ≡ output.old)
+        × (sockets.new.log.events ≡ []) × (logs.new.clock.readings ≡ [])) }
 {
     if let Some(page) = order.page {
         let address = SocketAddr::from((order.address, page));
@@ -269,12 +292,15 @@ fn with_log<O: Write>(
     logs: &mut DeviceLogs,
 ) -> Result<(), ServerFault>
     requires works { output.old.failed ≡ false }
+    requires readings { logs.old.clock.readings ≡ [] }
     requires ready { IsReady order.now (entries_of roster) server.old.hub }
     requires new { sockets.old.log.events ≡ [] }
     ensures serves { OnOk result (ServesBy order.now (entries_of roster.entry)
         (state_of server.old.hub).railway (state_of server.old.hub).programming
         sockets.new.log.events logs.new.clock.readings) }
     ensures end { IsEnd (names_file order.now) output.new.failed logs.new.faults.failed result }
+    ensures starved { IfErr result (λ fault. status_of fault ≡ 6 → (output.new ≡ output.old)
+        × (sockets.new.log.events ≡ []) × (logs.new.clock.readings ≡ [])) }
 {
     let mut log = LogQueue::new(rt.alloc())?;
     report_addresses(rt, sockets, &mut log, logs)?;
@@ -299,6 +325,7 @@ fn bind_page(
 ) -> Result<(), ServerFault>
     ensures log { sockets.new.log ≡ sockets.old.log }
     ensures end { IsEnd true false logs.new.faults.failed result }
+    ensures calls { logs.new.clock ≡ logs.old.clock }
 {
     let page = read_page(rt, file)?;
     match sockets.bind_page(address, page.as_slice(), names) {
@@ -325,7 +352,8 @@ fn report_addresses(
     log: &mut LogQueue,
     logs: &mut DeviceLogs,
 ) -> Result<(), ServerFault>
-    ensures { IsEnd false false logs.new.faults.failed result }
+    ensures end { IsEnd false false logs.new.faults.failed result }
+    ensures status { IfErr result (λ fault. status_of fault ≡ 4) }
 {
     let (bus, page) = match sockets.addresses() {
         Ok(addresses) => addresses,

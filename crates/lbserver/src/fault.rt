@@ -57,6 +57,7 @@ impl ServerFault {
         ensures file { is_of_file result ≡ false }
         ensures status { 1 < status_of result }
         ensures recorded { logs.new.faults.failed ≡ true }
+        ensures calls { (logs.new.sockets ≡ logs.old.sockets) × (logs.new.clock ≡ logs.old.clock) }
     {
         let why = fault.kind();
         logs.record_fault(fault);
@@ -70,6 +71,7 @@ impl ServerFault {
     pub(crate) fn of_system(fault: SystemFault, logs: &mut DeviceLogs) -> ServerFault
         ensures status { status_of result ≡ 4 }
         ensures recorded { logs.new.faults.failed ≡ true }
+        ensures calls { (logs.new.sockets ≡ logs.old.sockets) × (logs.new.clock ≡ logs.old.clock) }
     {
         logs.record_fault(fault);
         ServerFault::Run(RunFault::Network)
