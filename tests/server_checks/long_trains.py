@@ -122,3 +122,29 @@ def passing_tracks():
         client.write(send(POWER_OFF))
         log = [line for step in logged(server) for line in step]
     same("the log", log, ["derailed loco at turnout 1"])
+
+
+# A double slip: a turnout at each end of a short block, their common ends towards each other.
+SLIP = [
+    *(block(name, length, sensor) for sensor, (name, length) in enumerate(
+        [("west-1", 600), ("west-2", 600), ("slip", 200), ("east-1", 600), ("east-2", 600)], 1)),
+    turnout(1, "slip.a", "west-1.b", "west-2.b"),
+    turnout(2, "slip.b", "east-1.a", "east-2.a"),
+    train("loco", "west-1", 600, "b", 400, 1000),
+]
+
+
+def double_slips():
+    """--plan: a double slip is two turnouts at a short block, and leads from either track to either"""
+    with files(ROSTER, SLIP) as words, serve(*words, "--turns", "0") as server, Client(server) as client:
+        drive_all(client, [FORWARD])
+        for west, east in ((1, 1), (1, 2), (2, 1), (2, 2)):
+            answers(client, [*turned(1, west == 1), *turned(2, east == 1), f"PLACE loco west-{west} 600 b", "TURNS 60"])
+            # 347.76 mm from the end of its block: 147.76 mm behind the slip, and 52.24 mm of it not yet in the slip.
+            under = {west, 3, 3 + east}
+            wanted = [report(sensor, sensor in under) for sensor in range(1, 6)]
+            same(f"from {west} to {east}", reports_in(answers(client, send(INTERROGATION[0]))), wanted)
+        # It comes from the other track.
+        answers(client, [*turned(1, True), "PLACE loco west-2 600 b", "TURNS 1"])
+        client.write(send(POWER_OFF))
+        same("the log", [line for step in logged(server) for line in step][-1], "derailed loco at turnout 1")

@@ -89,8 +89,8 @@ def bad_words():
         holds(f"{words}: the help is printed", "up to eight at once" not in faults)
 
 
-# Numbers that are accepted: the least and the most, and one between.
-GOOD_NUMBERS = {"rate": (1, 50, 100), "turns": (0, 50, 255), "lose": (0, 50, 99), "seed": (0, 50, 4_294_967_295)}
+# Numbers that are accepted: all that there are, and of a seed the least and the most, and one between.
+GOOD_NUMBERS = {"rate": range(1, 101), "turns": range(256), "lose": range(100), "seed": (0, 50, 4_294_967_295)}
 
 
 def good_words():
