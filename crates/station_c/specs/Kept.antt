@@ -6,12 +6,12 @@ use denote.RawPtr.{Ptr}
 use Rattle.std.specs.Box.Ownership.{box_owns}
 use Rattle.std.specs.Global.{Global}
 use Rattle.std.specs.contracts.prelude.GlobalAllocator.TheImpl.{ghosts}
-use Rattle.layout_core.specs.contracts.world.World.{the_row}
+use Rattle.station_c.specs.contracts.contents.Contents.{the_row}
 
 -- nothing if there is no layout
 abbrev pub kept_owns : (made : Bool) → Global → Ptr → the_row.Denot → Fml
-kept_owns true alloc at world = box_owns (ghosts.dealloc_token alloc) the_row at world
-kept_owns false alloc at world = ftrue
+kept_owns true alloc at contents = box_owns (ghosts.dealloc_token alloc) the_row at contents
+kept_owns false alloc at contents = ftrue
 
-abbrev pub world_coded : Coded the_row.Denot
-world_coded = the_row.coded
+abbrev pub contents_coded : Coded the_row.Denot
+contents_coded = the_row.coded

@@ -4,28 +4,34 @@ use Rattle.station_core.specs.Seen.{Seen, first_seen, is_line_count}
 use Rattle.decoder_node.specs.declared.node.NodeSpec.{NodeSpec}
 use Rattle.layout_core.specs.declared.node.Node.{Node}
 use Rattle.layout_core.specs.Nodes.{node_of}
+use Rattle.railway.specs.Railway.{RailwayState}
 use Rattle.roster.specs.declared.fault.RosterFault.{RosterFault}
 use Rattle.roster.specs.Entry.{Entry, spec_of}
 use Rattle.station_c.specs.declared.layout.Layout.{Layout}
 
 abbrev pub station_of : Layout → Seen
-station_of layout = layout.inside.world.station
+station_of layout = layout.inside.contents.world.station
 
 abbrev pub nodes_of : Layout → List Node
-nodes_of layout = layout.inside.world.nodes
+nodes_of layout = layout.inside.contents.world.nodes
+
+-- the railway beside it, if it has a track plan
+abbrev pub railway_of : Layout → Option RailwayState
+railway_of layout = layout.inside.contents.railway
 
 abbrev pub lines_of : Layout → ℕ
 lines_of layout = length (station_of layout).lines
 
--- the layout is as before, with the same station and decoders
+-- the layout is as before, with the same station, decoders and railway
 abbrev pub IsUnchanged : (old new : Layout) → Type 0
-IsUnchanged old new = (new.made ≡ old.made) × (new.inside.world ≡ old.inside.world)
+IsUnchanged old new = (new.made ≡ old.made) × (new.inside.contents ≡ old.inside.contents)
 
--- there is one, with a new station and these decoders in their first state
-pub record IsNew (lines : ℕ) (specs : List NodeSpec) (layout : Layout) : Type 0 where
+-- there is one, with a new station, these decoders in their first state, and this railway or none
+pub record IsNew (lines : ℕ) (specs : List NodeSpec) (railway : Option RailwayState) (layout : Layout) : Type 0 where
   pub made : layout.made ≡ true
   pub station : station_of layout ≡ first_seen lines
   pub nodes : nodes_of layout ≡ map node_of specs
+  pub beside : railway_of layout ≡ railway
 
 -- Why none is made: 4 there is one already, 2 the decoders are invalid, 1 the lines are not 1 to 8.
 -- 0 if nothing is wrong.

@@ -6,3 +6,5 @@ pub mod Kept
 pub mod Layout
 pub mod Messages
 pub mod Motion
+pub mod Plan
+pub mod Train

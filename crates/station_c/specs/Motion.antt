@@ -5,7 +5,7 @@ use Rattle.dcc_packet.specs.declared.steps.Steps.TheVariants.{S14, S28, S128}
 use Rattle.dcc_packet.specs.declared.steps.Motion.{Motion as Asked}
 use Rattle.dcc_packet.specs.declared.steps.Motion.TheVariants.{Stop, Emergency, Step}
 use Rattle.decoder_node.specs.declared.running.Running.{Running}
-use Rattle.station_c.specs.declared.motion.Motion.{Motion}
+use Rattle.station_c.specs.declared.driving.Motion.{Motion}
 
 abbrev pub steps_in : Steps → ℕ
 steps_in S14 = 14

@@ -1,8 +1,8 @@
 //! The handle of a layout in a program in C.
 ghost use Rattle.std.specs.Prelude.{◌≡◌, true, false, None, IfSome};
 
-use crate::kept_world::KeptWorld;
-use layout_core::World;
+use crate::contents::Contents;
+use crate::kept_contents::KeptContents;
 use std::alloc::Global;
 use std::mem;
 
@@ -11,7 +11,7 @@ use std::mem;
 #[repr(C)]
 #[derive(Drop)]
 pub struct Layout {
-    inside: KeptWorld,
+    inside: KeptContents,
     /// Whether there is a layout.
     pub made: bool,
     ghost agrees: { inside.made ≡ made },
@@ -23,16 +23,16 @@ impl Layout {
         ensures { result.made ≡ false }
     {
         Layout {
-            inside: KeptWorld::none(alloc),
+            inside: KeptContents::none(alloc),
             made: false,
         }
     }
 
     /// Takes the layout out, if there is one.
-    pub(crate) fn take(&mut self, alloc: Global) -> Option<Box<World, Global>>
+    pub(crate) fn take(&mut self, alloc: Global) -> Option<Box<Contents, Global>>
         ensures found { IfSome result
-            (λ world. (self.old.made ≡ true) × (world.value ≡ self.old.inside.world)) }
-        ensures left { IfSome result (λ world. self.new.made ≡ false) }
+            (λ contents. (self.old.made ≡ true) × (contents.value ≡ self.old.inside.contents)) }
+        ensures left { IfSome result (λ _. self.new.made ≡ false) }
         ensures none { result ≡ None → (self.old.made ≡ false) × (self.new ≡ self.old) }
     {
         if !self.made {
@@ -43,13 +43,13 @@ impl Layout {
     }
 
     /// Puts in a layout; there was none.
-    pub(crate) fn put(&mut self, world: Box<World, Global>)
+    pub(crate) fn put(&mut self, contents: Box<Contents, Global>)
         requires none { self.old.made ≡ false }
         ensures made { self.new.made ≡ true }
-        ensures world { self.new.inside.world ≡ world.value }
+        ensures contents { self.new.inside.contents ≡ contents.value }
     {
         *self = Layout {
-            inside: KeptWorld::of(world),
+            inside: KeptContents::of(contents),
             made: true,
         };
     }

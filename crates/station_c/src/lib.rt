@@ -24,17 +24,20 @@ ghost use Rattle.station_c.specs.Motion.{driven};
 
 mod answer;
 mod builders;
+mod contents;
 mod decoder;
+mod driving;
 mod event;
-mod kept_world;
+mod kept_contents;
 mod kind;
 mod layout;
 mod message;
-mod motion;
+mod plan;
 mod raw;
 mod run;
 #[cfg(test)]
 mod tests;
+mod train;
 
 pub use answer::Answer;
 use answer::answered;
@@ -44,20 +47,24 @@ pub use builders::{
     station_opc_move_slots, station_opc_rq_sl_data, station_opc_slot_stat1, station_opc_sw_req,
     station_opc_wr_sl_data,
 };
+use contents::Contents;
 pub use decoder::Decoder;
 use decoder::read_all;
 use decoder_node::NodeList;
+pub use driving::Motion;
+use driving::driven;
 pub use event::EventFields;
 use event::are_events;
 pub use layout::Layout;
 use layout_core::{DecoderState, Event, World};
 pub use message::Message;
-pub use motion::Motion;
-use motion::driven;
+pub use plan::{station_elapse, station_plan, station_sensor, station_train_of};
+use railway::Railway;
 use roster::Why;
 use run::run;
 use station_core::StationFault;
 use std::alloc::Global;
+pub use train::Train;
 
 /// A layout was made.
 const MADE: u8 = 0;
@@ -66,13 +73,16 @@ const MADE: u8 = 0;
 const BAD_LINES: u8 = 1;
 
 /// A decoder is invalid, there are more than 64, or the roster has a fault.
-const BAD_DECODERS: u8 = 2;
+pub(crate) const BAD_DECODERS: u8 = 2;
 
 /// Out of memory.
-const NO_MEMORY: u8 = 3;
+pub(crate) const NO_MEMORY: u8 = 3;
 
 /// There is a layout already.
-const ALREADY_MADE: u8 = 4;
+pub(crate) const ALREADY_MADE: u8 = 4;
+
+/// The track plan has a fault.
+pub(crate) const BAD_PLAN: u8 = 5;
 
 /// Makes a layout with `lines` lines and these decoders; there must be none yet.
 ///
@@ -88,7 +98,7 @@ pub extern "C" fn station_new(
 ) -> u8
     ensures status { IsStatus (refusal layout.old.made (decoders_of decoders.now) lines) result }
     ensures made { result ≡ 0
-        → IfSome (decoders_of decoders.now) (λ specs. IsNew lines specs layout.new) }
+        → IfSome (decoders_of decoders.now) (λ specs. IsNew lines specs None layout.new) }
     ensures untouched { result ≢ 0 → layout.new ≡ layout.old }
 {
     if layout.made {
@@ -97,7 +107,7 @@ pub extern "C" fn station_new(
     let Some(nodes) = read_all(decoders) else {
         return BAD_DECODERS;
     };
-    make(alloc, layout, lines, nodes)
+    make(alloc, layout, lines, nodes, None)
 }
 
 /// Makes a layout with `lines` lines and the decoders of a roster; there must be none yet.
@@ -117,7 +127,7 @@ pub extern "C" fn station_read(
     ensures status { (result ≡ refusal layout.old.made (specs_in (roster_in text.now)) lines)
         ⊎ ((layout.old.made ≡ false) × (result ≡ 3)) }
     ensures made { result ≡ 0
-        → IfSome (specs_in (roster_in text.now)) (λ specs. IsNew lines specs layout.new) }
+        → IfSome (specs_in (roster_in text.now)) (λ specs. IsNew lines specs None layout.new) }
     ensures untouched { result ≢ 0 → layout.new ≡ layout.old }
     ensures fault { result ≡ 2 → IsFaultyNode (roster_in text.now) node.new }
     ensures no_fault { result ≢ 2 → node.new ≡ node.old }
@@ -126,7 +136,7 @@ pub extern "C" fn station_read(
         return ALREADY_MADE;
     }
     match roster::read(alloc, text) {
-        Ok(roster) => make(alloc, layout, lines, roster.nodes()),
+        Ok(roster) => make(alloc, layout, lines, roster.nodes(), None),
         Err(fault) if fault.why == Why::NoMemory => NO_MEMORY,
         Err(fault) => {
             *node = fault.node;
@@ -158,16 +168,22 @@ pub extern "C" fn station_check(alloc: Global, text: &[u8], number: &mut u8, nod
 }
 
 /// Makes a layout where there is none, or returns the status of the failure.
-fn make(alloc: Global, layout: &mut Layout, lines: u8, nodes: NodeList) -> u8
+pub(crate) fn make(
+    alloc: Global,
+    layout: &mut Layout,
+    lines: u8,
+    nodes: NodeList,
+    railway: Option<Railway>,
+) -> u8
     requires none { layout.old.made ≡ false }
     ensures status { IsStatus (refusal false (Some nodes.items) lines) result }
-    ensures made { result ≡ 0 → IsNew lines nodes.items layout.new }
+    ensures made { result ≡ 0 → IsNew lines nodes.items railway layout.new }
     ensures untouched { result ≢ 0 → layout.new ≡ layout.old }
 {
     match World::new(alloc, lines, nodes) {
-        Ok(world) => match Box::new(alloc, world) {
-            Ok(world) => {
-                layout.put(world);
+        Ok(world) => match Box::new(alloc, Contents { world, railway }) {
+            Ok(contents) => {
+                layout.put(contents);
                 MADE
             }
             Err(_) => NO_MEMORY,
@@ -206,15 +222,15 @@ pub extern "C" fn station_byte(
     ensures untouched { result ≡ false → IsUnchanged layout.old layout.new
         × (answer.new ≡ answer.old) }
 {
-    let Some(mut world) = layout.take(alloc) else {
+    let Some(mut contents) = layout.take(alloc) else {
         return false;
     };
-    let is_line = line < world.station().lines();
+    let is_line = line < contents.world.station().lines();
     if is_line {
-        let step = world.step(Event::Byte { line, byte });
+        let step = contents.world.step(Event::Byte { line, byte });
         *answer = answered(&step);
     }
-    layout.put(world);
+    layout.put(contents);
     is_line
 }
 
@@ -241,12 +257,12 @@ pub extern "C" fn station_turn(
     ensures untouched { result ≡ false → IsUnchanged layout.old layout.new
         × (answer.new ≡ answer.old) }
 {
-    let Some(mut world) = layout.take(alloc) else {
+    let Some(mut contents) = layout.take(alloc) else {
         return false;
     };
-    let step = world.step(Event::Turn { missed });
+    let step = contents.world.step(Event::Turn { missed });
     *answer = answered(&step);
-    layout.put(world);
+    layout.put(contents);
     true
 }
 
@@ -285,17 +301,21 @@ pub extern "C" fn station_run(
     ensures untouched { result ≡ false → IsUnchanged layout.old layout.new
         × (answers.new ≡ answers.old) }
 {
-    let Some(mut world) = layout.take(alloc) else {
+    let Some(mut contents) = layout.take(alloc) else {
         return false;
     };
     let runs = events.len() == answers.len()
-        && are_events(events, world.station().lines(), world.nodes());
+        && are_events(
+            events,
+            contents.world.station().lines(),
+            contents.world.nodes(),
+        );
     if !runs {
-        layout.put(world);
+        layout.put(contents);
         return false;
     }
-    run(&mut *world, events, answers);
-    layout.put(world);
+    run(&mut contents.world, events, answers);
+    layout.put(contents);
     true
 }
 
@@ -316,11 +336,11 @@ fn decoder_state(alloc: Global, layout: &mut Layout, i: usize) -> DecoderState
         running: None,
         outputs: None,
     };
-    if let Some(world) = layout.take(alloc) {
-        if i < world.nodes() {
-            decoder_state = world.decoder_state(i);
+    if let Some(contents) = layout.take(alloc) {
+        if i < contents.world.nodes() {
+            decoder_state = contents.world.decoder_state(i);
         }
-        layout.put(world);
+        layout.put(contents);
     }
     decoder_state
 }

@@ -1,9 +1,9 @@
 //! The exports, called as C calls them. Bytes are worked out by hand from the two standards.
 
 use crate::{
-    Answer, Decoder, EventFields, Layout, Message, Motion, station_byte, station_check,
-    station_free, station_new, station_outputs, station_read, station_run, station_running,
-    station_turn,
+    Answer, Decoder, EventFields, Layout, Message, Motion, Train, station_byte, station_check,
+    station_elapse, station_free, station_new, station_outputs, station_plan, station_read,
+    station_run, station_running, station_sensor, station_train_of, station_turn,
 };
 use std::alloc::Global;
 use std::mem::size_of;
@@ -359,6 +359,67 @@ const ROSTER: &[u8] =
 const FAULTY: &[u8] =
     b"version = 2\n\n[[node]]\nname = \"a\"\nkind = \"loco\"\ncvs = [[1, 3], [29, 2]]\n\n[[node]]\nname = \"b\"\nkind = \"accessory\"\nmodule = 0\n";
 
+/// A block of a metre with sensor 7, and a train of 100 mm at its end A.
+const PLAN: &[u8] =
+    b"version = 1\n[[block]]\nname = \"main\"\nlength = 1000\nsensor = 7\n[[train]]\ndecoder = \"a\"\nblock = \"main\"\nfront = 100\nfacing = \"b\"\nlength = 100\nspeed = 100\n";
+
+const NO_TRAIN: Train = Train {
+    front: 9,
+    speed: 9,
+    derailed_at: 9,
+    block: 9,
+    rear_block: 9,
+    faces_b: false,
+};
+
+const AT_END_A: Train = Train {
+    front: 100,
+    speed: 0,
+    derailed_at: 0,
+    block: 0,
+    rear_block: 0,
+    faces_b: true,
+};
+
+fn has_no_train(alloc: Global, layout: &mut Layout, i: usize) -> bool {
+    let mut train = NO_TRAIN;
+    !station_train_of(alloc, layout, i, &mut train) && train == NO_TRAIN
+}
+
+fn has_no_sensor(alloc: Global, layout: &mut Layout, sensor: u16) -> bool {
+    let mut occupied = false;
+    !station_sensor(alloc, layout, sensor, &mut occupied) && !occupied
+}
+
+#[test]
+fn has_the_trains_of_a_plan(rt: HostRuntime) {
+    let alloc = rt.alloc();
+    let mut layout = Layout::none(alloc);
+    assert!(rt; station_plan(alloc, &mut layout, 1, b"version = 3", PLAN) == 2);
+    assert!(rt; station_plan(alloc, &mut layout, 1, ROSTER, b"version = 2") == 5);
+    assert!(rt; station_plan(alloc, &mut layout, 9, ROSTER, PLAN) == 1);
+    assert!(rt; !station_elapse(alloc, &mut layout, 1));
+    assert!(rt; has_no_train(alloc, &mut layout, 0) && has_no_sensor(alloc, &mut layout, 7));
+    assert!(rt; station_plan(alloc, &mut layout, 1, ROSTER, PLAN) == 0);
+    assert!(rt; station_plan(alloc, &mut layout, 1, ROSTER, PLAN) == 4);
+    let (mut train, mut occupied) = (NO_TRAIN, false);
+    assert!(rt; station_elapse(alloc, &mut layout, 1_000_000));
+    assert!(rt; station_train_of(alloc, &mut layout, 0, &mut train) && train == AT_END_A);
+    assert!(rt; station_sensor(alloc, &mut layout, 7, &mut occupied) && occupied);
+    assert!(rt; has_no_train(alloc, &mut layout, 1) && has_no_sensor(alloc, &mut layout, 1));
+    station_free(alloc, &mut layout);
+}
+
+#[test]
+fn has_no_trains_without_a_plan(rt: HostRuntime) -> Result<(), Fail> {
+    let alloc = rt.alloc();
+    let mut layout = made(alloc)?;
+    assert!(rt; !station_elapse(alloc, &mut layout, 1));
+    assert!(rt; has_no_train(alloc, &mut layout, 0) && has_no_sensor(alloc, &mut layout, 7));
+    station_free(alloc, &mut layout);
+    Ok(())
+}
+
 fn is_refused(alloc: Global, layout: &mut Layout, events: &[EventFields; 3]) -> bool {
     let mut answers = [LOADED; 3];
     !station_run(alloc, layout, events, &mut answers)
@@ -414,6 +475,7 @@ fn structs_are_as_large_as_in_c(rt: HostRuntime) {
     assert!(rt; size_of::<EventFields>() == 16);
     assert!(rt; size_of::<Answer>() == 16);
     assert!(rt; size_of::<Motion>() == 6);
+    assert!(rt; size_of::<Train>() == 16);
     assert!(rt; size_of::<Message>() == 15);
 }
 

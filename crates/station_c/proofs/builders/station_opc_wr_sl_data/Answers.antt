@@ -1,4 +1,4 @@
-use Rattle.std.proofs.Common.{◌≡◌, ◌==◌, ◌&&◌, ◌∷◌, [], ℕ, List, length, ap, sym, ◌∙◌, arith}
+use Rattle.std.proofs.Common.{◌≡◌, ◌==◌, ◌&&◌, ◌∷◌, ℕ, List, length, ap, sym, ◌∙◌, arith}
 use Rattle.ln_frame.specs.Message.{are_data, check_of}
 use Rattle.ln_ops.specs.declared.op.Op.TheVariants.{SlotWrite}
 use Rattle.station_c.specs.Messages.{message_with}

@@ -5,11 +5,11 @@ use types.Kit.{rewrite}
 use denote.Exit.{yes}
 use denote.Triple.Walked.{Goes-dropped}
 use Rattle.station_c.proofs.Boxed.{E, AsKept}
-use Rattle.station_c.specs.contracts.kept_world.KeptWorld.{the_row as KeptWorld}
+use Rattle.station_c.specs.contracts.kept_contents.KeptContents.{the_row as KeptContents}
 use denote.Signature.{type_at}
-use Rattle.station_c.specs.contracts.kept_world.KeptWorld.into_raw as f
-use Rattle.station_c.proofs.kept_world.KeptWorld.into_raw.Statement.{statement}
-use Rattle.station_c.proofs.kept_world.KeptWorld.into_raw.Code as code
+use Rattle.station_c.specs.contracts.kept_contents.KeptContents.into_raw as f
+use Rattle.station_c.proofs.kept_contents.KeptContents.into_raw.Statement.{statement}
+use Rattle.station_c.proofs.kept_contents.KeptContents.into_raw.Code as code
 
 pub into_raw_spec : {M : Type 1} → statement M
 into_raw_spec 𝓤 𝓛 𝓜 𝓡 wired =
@@ -17,13 +17,13 @@ into_raw_spec 𝓤 𝓛 𝓜 𝓡 wired =
     let stayed : Stays f.ended.signature.params f.ended.kept = (stay_dropped AsKept yes, tt) in let W = walk_of 𝓛 f.ended stayed c in
     proved_at 𝓛 f.ended stayed c 𝓜 𝓡 (Goes-dropped 𝓛 0 AsKept yes (λ κs x w. refl), tt) f.Key.name code.function (code.unfolded 𝓤 𝓛.H 𝓜 𝓡 wired) (λ z are.
     let h = z.0.3.0 in
-    let d : D E = record { ptr = h.at; alloc = h.alloc; value = h.world } in
+    let d : D E = record { ptr = h.at; alloc = h.alloc; value = h.contents } in
     let To = type_at f.signature.result tt in
-    let parts : To.Denot = record { at = h.at; alloc = h.alloc; value = h.world } in
+    let parts : To.Denot = record { at = h.at; alloc = h.alloc; value = h.contents } in
     let Run : List Val → SProp 𝓤 = λ ws. WpFn 𝓤 𝓛.H 𝓣.C 𝓣.Λ code.function ws (W.post z) in
-    qed 𝓛 ((‵ ftrue ⊛ ‵ (fsep (KeptWorld.own_val h z.0.4.0) ftrue)) ∷ raw (fact 𝓤 (h.made ≡ true)) ∷ []) ∵
+    qed 𝓛 ((‵ ftrue ⊛ ‵ (fsep (KeptContents.own_val h z.0.4.0) ftrue)) ∷ raw (fact 𝓤 (h.made ≡ true)) ∷ []) ∵
     move ! (1 ∷ []) $ heard ! (h.made ≡ true) (λ is_made. split ! $ move ! (1 ∷ []) $ fsplit ! $
-    rewrite ! 0 (λ (made : Bool). ‵ (KeptWorld.own_val (record h { made = made }) z.0.4.0)) is_made refl $
+    rewrite ! 0 (λ (made : Bool). ‵ (KeptContents.own_val (record h { made = made }) z.0.4.0)) is_made refl $
     use1 𝓛 (‵ ((B E).own_val d z.0.4.0)) (id⊢ 𝓤 _) $
     box_out E ! d z.0.4.0 (λ b o hv e ws fits. box_in E ! d b o d.value e refl $
     let w = word E hv b o in let typed = box_typed E hv b o fits in

@@ -16,11 +16,11 @@ use denote.Triple.Walked.{Goes-dropped}
 use Rattle.std.proofs.alloc.Calls.{handle_tells}
 use Rattle.std.specs.contracts.alloc.Global.{the_row as Global}
 use Rattle.station_c.proofs.Boxed.{E}
-use Rattle.station_c.proofs.Boxed.{no_world}
-use Rattle.station_c.specs.contracts.kept_world.KeptWorld.{the_row as KeptWorld, the_type}
-use Rattle.station_c.specs.contracts.kept_world.KeptWorld.none as f
-use Rattle.station_c.proofs.kept_world.KeptWorld.none.Statement.{statement}
-use Rattle.station_c.proofs.kept_world.KeptWorld.none.Code as code
+use Rattle.station_c.proofs.Boxed.{no_contents}
+use Rattle.station_c.specs.contracts.kept_contents.KeptContents.{the_row as KeptContents, the_type}
+use Rattle.station_c.specs.contracts.kept_contents.KeptContents.none as f
+use Rattle.station_c.proofs.kept_contents.KeptContents.none.Statement.{statement}
+use Rattle.station_c.proofs.kept_contents.KeptContents.none.Code as code
 
 pub none_spec : {M : Type 1} → statement M
 none_spec 𝓤 𝓛 𝓜 𝓡 wired =
@@ -28,7 +28,7 @@ none_spec 𝓤 𝓛 𝓜 𝓡 wired =
     let stayed : Stays f.ended.signature.params f.ended.kept = (stay_dropped (plain (λ _. Global)) yes, tt) in let W = walk_of 𝓛 f.ended stayed c in
     proved_at 𝓛 f.ended stayed c 𝓜 𝓡 (Goes-dropped 𝓛 0 (plain (λ _. Global)) yes (λ κs x w. refl), tt) f.Key.name code.function (code.unfolded 𝓤 𝓛.H 𝓜 𝓡 wired) (λ z are.
     let a = z.0.3.0 in
-    let none : KeptWorld.Denot = record { at = null_ptr; alloc = a; made = false; world = no_world } in
+    let none : KeptContents.Denot = record { at = null_ptr; alloc = a; made = false; contents = no_contents } in
     let Run : List Val → SProp 𝓤 = λ ws. WpFn 𝓤 𝓛.H 𝓣.C 𝓣.Λ code.function ws (W.post z) in
     qed 𝓛 ((‵ ftrue ⊛ ‵ (fsep (Global.own_val a z.0.4.0) ftrue)) ∷ raw (emp 𝓤) ∷ []) ∵ split ! $ move ! (1 ∷ []) $ fsplit ! $
     handle_tells E.al ! a z.0.4.0 (λ hv ws fits.
@@ -40,6 +40,6 @@ none_spec 𝓤 𝓛 𝓜 𝓡 wired =
     nothing ! $ move ! (1 ∷ 0 ∷ []) $ fjoin ! $ feq_i ! (List Val) (vint w64 0 ∷ []) (vint w64 0 ∷ []) refl $ fjoin ! $
     feq_i ! (List Val) (w ∷ []) (w ∷ []) refl $ fjoin ! $
     fpack ! (Valss (RawPtr ∷ Global ∷ [])) (within (shape the_type) (null_ptr, (((a.memory.seal, tt), tt), tt)) (w ∷ [])) (vint w64 0 ∷ [], (hv ∷ [], tt)) $
-    nothing ! $ move ! (1 ∷ 0 ∷ []) $ fjoin ! $ use1 𝓛 (‵ (KeptWorld.own_val none (w ∷ []))) (id⊢ 𝓤 _) $
+    nothing ! $ move ! (1 ∷ 0 ∷ []) $ fjoin ! $ use1 𝓛 (‵ (KeptContents.own_val none (w ∷ []))) (id⊢ 𝓤 _) $
     suffices ! _ (ends_at 𝓛 f.ended stayed c z w none (tt, tt) (tt, tt)) $ says ! refl $
     nothing ! $ nothing ! $ fjoin ! $ join ! $ nothing ! $ join ! $ done !)))
