@@ -149,7 +149,7 @@ static void play(station_layout *layout, const char *line, unsigned long *turns)
 static void print_sizes(void) {
     printf("station_layout %zu\nstation_decoder %zu\n", sizeof(station_layout), sizeof(station_decoder));
     printf("station_event %zu\nstation_answer %zu\n", sizeof(station_event), sizeof(station_answer));
-    printf("station_motion %zu\n", sizeof(station_motion));
+    printf("station_motion %zu\nstation_train %zu\n", sizeof(station_motion), sizeof(station_train));
     FIELD(station_layout, at), FIELD(station_layout, made);
     FIELD(station_decoder, module), FIELD(station_decoder, accessory), FIELD(station_decoder, cv1);
     FIELD(station_decoder, cv17), FIELD(station_decoder, cv18), FIELD(station_decoder, cv29);
@@ -158,6 +158,8 @@ static void print_sizes(void) {
     FIELD(station_answer, kind), FIELD(station_answer, size), FIELD(station_answer, bytes);
     FIELD(station_motion, functions), FIELD(station_motion, kind), FIELD(station_motion, step);
     FIELD(station_motion, steps), FIELD(station_motion, forward);
+    FIELD(station_train, front), FIELD(station_train, speed), FIELD(station_train, derailed_at);
+    FIELD(station_train, block), FIELD(station_train, rear_block), FIELD(station_train, faces_b);
 }
 
 #define NUMBER(name) printf("%s %d\n", #name, STATION_##name)
@@ -167,10 +169,11 @@ static void print_numbers(void) {
     NUMBER(QUIET), NUMBER(REPLY), NUMBER(PACKET), NUMBER(OFF);
     NUMBER(STOP), NUMBER(EMERGENCY), NUMBER(STEP);
     NUMBER(MADE), NUMBER(BAD_LINES), NUMBER(BAD_DECODERS), NUMBER(NO_MEMORY), NUMBER(ALREADY_MADE);
+    NUMBER(BAD_PLAN);
 }
 
 static void print_texts(void) {
-    for (uint8_t status = 0; status <= STATION_ALREADY_MADE + 1; status++)
+    for (uint8_t status = 0; status <= STATION_BAD_PLAN + 1; status++)
         printf("%u %s\n", status, station_status_text(status));
     for (uint8_t fault = 0; fault <= STATION_BAD_CV_LIST; fault++)
         printf("%u %s\n", fault, station_fault_text(fault));
@@ -212,6 +215,48 @@ static void print_messages(void) {
     print_message("MESSAGE", station_message_of(no_body, sizeof no_body, &sent), &sent);
 }
 
+/* Where train 0 is, and which of these sensors are high. */
+static void print_train(station_layout *layout, const uint16_t *sensors, size_t many) {
+    station_train train = { 0 };
+    bool occupied = false;
+    if (!station_train_of(layout, 0, &train))
+        printf("no train\n");
+    else
+        printf("block %u, %u mm, faces %c, rear in %u, %u mm/s, sensors", train.block, train.front,
+            train.faces_b ? 'b' : 'a', train.rear_block, train.speed);
+    for (size_t i = 0; i < many; i++)
+        if (station_sensor(layout, sensors[i], &occupied) && occupied)
+            printf(" %u", sensors[i]);
+    printf("\n");
+}
+
+/* Drives address 3 at its last step over a plan, and says where train 0 is after these times. */
+static int run_plan(const char *roster_file, const char *plan_file) {
+    static const uint8_t driving[] = { 0xBF, 0, 3, 0x43, 0x83, 0x7C, 0xBA, 1, 1, 0x45, 0xA0, 1, 0x7F, 0x21 };
+    static const uint32_t micros[] = { 0, 1000000, 1000000, 1, 1199998, 1 };
+    static const uint16_t sensors[] = { 1, 2, 3, 6 };
+    station_layout layout = STATION_NONE;
+    station_answer answer;
+    size_t roster_size, plan_size;
+    const uint8_t *roster = (const uint8_t *)read_file(roster_file, &roster_size);
+    const uint8_t *plan = (const uint8_t *)read_file(plan_file, &plan_size);
+    uint8_t status = station_plan(&layout, 1, roster, roster_size, plan, plan_size);
+    if (status != STATION_MADE) {
+        printf("%s\n", station_status_text(status));
+        return 2;
+    }
+    for (size_t i = 0; i < sizeof driving; i++)
+        station_byte(&layout, 0, driving[i], &answer);
+    for (int turn = 0; turn < 16; turn++)
+        station_turn(&layout, 0, &answer);
+    for (size_t i = 0; i < sizeof micros / sizeof *micros; i++) {
+        station_elapse(&layout, micros[i]);
+        print_train(&layout, sensors, sizeof sensors / sizeof *sensors);
+    }
+    station_free(&layout);
+    return station_elapse(&layout, 1);
+}
+
 /* What is wrong with a roster. */
 static const char *fault_of(const char *roster, size_t size) {
     uint8_t fault = 0, node = 0;
@@ -236,8 +281,10 @@ int main(int argc, char **argv) {
         print_messages();
         return 0;
     }
+    if (argc == 4 && strcmp(argv[1], "plan") == 0)
+        return run_plan(argv[2], argv[3]);
     if (argc != 4) {
-        fprintf(stderr, "usage: play ROSTER SCRIPT LINES | play sizes | play numbers | play texts | play messages\n");
+        fprintf(stderr, "usage: play ROSTER SCRIPT LINES | play plan ROSTER PLAN | play sizes | play numbers | play texts | play messages\n");
         return 2;
     }
     size_t size;

@@ -80,7 +80,8 @@ enum {
     STATION_BAD_LINES = 1,
     STATION_BAD_DECODERS = 2,
     STATION_NO_MEMORY = 3,
-    STATION_ALREADY_MADE = 4
+    STATION_ALREADY_MADE = 4,
+    STATION_BAD_PLAN = 5
 };
 
 /* Makes a layout with 1 to 8 lines and up to 64 decoders; there must be none yet. Unless it returns STATION_MADE the
@@ -120,6 +121,7 @@ static inline const char *station_status_text(uint8_t status) {
     case STATION_BAD_DECODERS: return "a decoder is invalid, or there are more than 64, or the roster has a fault";
     case STATION_NO_MEMORY: return "out of memory";
     case STATION_ALREADY_MADE: return "there is a layout already";
+    case STATION_BAD_PLAN: return "the track plan has a fault";
     default: return "no status";
     }
 }
@@ -166,6 +168,39 @@ bool station_running(station_layout *layout, size_t i, station_motion *motion);
  * there is no layout.
  * Owed: nothing but the above. */
 bool station_outputs(station_layout *layout, size_t i, uint8_t *outputs);
+
+/* The same as station_read, with the trains and sensors of a track plan, a text in TOML as lbserver --plan reads it. If
+ * the plan has a fault, the function returns STATION_BAD_PLAN; lbserver says which.
+ * Owed: `roster` points to `roster_size` bytes and `plan` to `plan_size`, and a layout that was made is ended once, by
+ * station_free. */
+uint8_t station_plan(station_layout *layout, uint8_t lines, const uint8_t *roster, size_t roster_size,
+    const uint8_t *plan, size_t plan_size);
+
+/* Lets `micros` microseconds pass in which the decoders do what they do now: while the track has power trains run and
+ * turnouts move. No other function takes time; a turn lasts 5,796 to 10,740 microseconds. Returns false if there is no
+ * layout with a track plan.
+ * Owed: nothing but the above. */
+bool station_elapse(station_layout *layout, uint32_t micros);
+
+/* Writes whether a part of a train is in the block of a sensor, 1 to 4096. Returns false if no block has it, or if
+ * there is no layout with a track plan.
+ * Owed: nothing but the above. */
+bool station_sensor(station_layout *layout, uint16_t sensor, bool *occupied);
+
+/* Where a train is: the index in the plan of the block of its front, from 0, how far the front is from end A of it in
+ * millimetres, and whether it faces end B; the block of its rear. `speed` is in millimetres a second, and
+ * `derailed_at` the switch of the turnout that derailed it, or 0. */
+typedef struct station_train {
+    uint32_t front, speed;
+    uint16_t derailed_at;
+    uint8_t block, rear_block;
+    bool faces_b;
+} station_train;
+
+/* Writes where train i of the plan is, from 0. Returns false if there is no such train, or if there is no layout with a
+ * track plan.
+ * Owed: nothing but the above. */
+bool station_train_of(station_layout *layout, size_t i, station_train *train);
 
 /* A LocoNet message of 2 to 14 bytes, the check byte the last. The rest of `bytes` is zero. */
 typedef struct station_message {

@@ -7,7 +7,7 @@ import os
 import pathlib
 import subprocess
 from collections.abc import Iterator
-from ctypes import POINTER, Structure, c_bool, c_size_t, c_uint8, c_uint16, c_uint64, c_void_p
+from ctypes import POINTER, Structure, c_bool, c_size_t, c_uint8, c_uint16, c_uint32, c_uint64, c_void_p
 from typing import Any
 
 from .errors import LibraryError
@@ -16,7 +16,7 @@ NAME = "libstation.so"
 QUIET, REPLY, PACKET, OFF = range(4)
 STOP, EMERGENCY, STEP = range(3)
 BYTE, TURN, NOISE = range(3)
-MADE, BAD_LINES, BAD_DECODERS, NO_MEMORY, ALREADY_MADE = range(5)
+MADE, BAD_LINES, BAD_DECODERS, NO_MEMORY, ALREADY_MADE, BAD_PLAN = range(6)
 
 
 class Layout(Structure):
@@ -66,6 +66,19 @@ class Motion(Structure):
         ("step", c_uint8),
         ("steps", c_uint8),
         ("forward", c_bool),
+    ]
+
+
+class Train(Structure):
+    """Where a train is."""
+
+    _fields_ = [
+        ("front", c_uint32),
+        ("speed", c_uint32),
+        ("derailed_at", c_uint16),
+        ("block", c_uint8),
+        ("rear_block", c_uint8),
+        ("faces_b", c_bool),
     ]
 
 
@@ -121,14 +134,14 @@ def array_of(kind: Any, values: Any) -> Any:
 def numbers() -> Iterator[str]:
     """The kinds and statuses, as `play numbers` prints them."""
     events, answers, motions = "BYTE TURN NOISE", "QUIET REPLY PACKET OFF", "STOP EMERGENCY STEP"
-    statuses = "MADE BAD_LINES BAD_DECODERS NO_MEMORY ALREADY_MADE"
+    statuses = "MADE BAD_LINES BAD_DECODERS NO_MEMORY ALREADY_MADE BAD_PLAN"
     for name in f"{events} {answers} {motions} {statuses}".split():
         yield f"{name} {globals()[name]}"
 
 
 def sizes() -> Iterator[str]:
     """The sizes of the structs and the offsets of their fields, as `play sizes` prints them."""
-    kinds: dict[str, Any] = {"layout": Layout, "decoder": Decoder, "event": Event, "answer": Answer, "motion": Motion}
+    kinds: dict[str, Any] = {"layout": Layout, "decoder": Decoder, "event": Event, "answer": Answer, "motion": Motion, "train": Train}
     for name, kind in kinds.items():
         yield f"station_{name} {ctypes.sizeof(kind)}"
     for name, kind in kinds.items():
