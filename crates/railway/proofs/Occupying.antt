@@ -60,3 +60,18 @@ full-by is marks i (block ∷ blocks) h few =
 
 pub full-marked : (is : ℕ → Bool) (marks : List Bool) (blocks : List Block) → AreMarked is marks → length blocks ≤ 64 → full_in marks 0 blocks ≡ full blocks is
 full-marked is marks blocks h few = full-by is marks 0 blocks h (omega (arith, few))
+
+-- Each block changes at most once.
+
+both-onto : (sensor : Option ℕ) (was is : Bool) (rises falls : List SensorReport)
+    → length (onto (change_of true sensor was is) rises) + length (onto (change_of false sensor was is) falls) ≤ length rises + length falls + 1
+both-onto None was is rises falls = omega arith
+both-onto (Some sensor) true true rises falls = omega arith
+both-onto (Some sensor) true false rises falls = omega arith
+both-onto (Some sensor) false true rises falls = omega arith
+both-onto (Some sensor) false false rises falls = omega arith
+
+pub each_once : (was is : List Bool) (i : ℕ) (blocks : List Block) → length (changes_in true was is i blocks) + length (changes_in false was is i blocks) ≤ length blocks
+each_once was is i [] = omega arith
+each_once was is i (block ∷ blocks) =
+    omega (arith, each_once was is (i + 1) blocks, both-onto block.sensor (slice_index_or was i false) (slice_index_or is i false) (changes_in true was is (i + 1) blocks) (changes_in false was is (i + 1) blocks))

@@ -1,6 +1,5 @@
 //! What the sensors report.
 ghost use Rattle.std.specs.Prelude.{◌≡◌, ◌≤◌, ◌+◌, ◌++◌, length};
-ghost use Rattle.arrayvec.specs.ArrayVec.{array_vec_len};
 ghost use Rattle.railway.specs.Reports.{AreMarked, change_of, changes_in, changes_of, full_in, is_occupied, occupies, same_blocks};
 
 use crate::block::Block;
@@ -10,8 +9,8 @@ use crate::train::TrainState;
 use arrayvec::ArrayVec;
 use ln_ops::SensorReport;
 
-/// The most reports of one moment: two of each block.
-pub const MAX_REPORTS: usize = 2 * MAX_BLOCKS;
+/// The most reports of one moment: one of each block.
+pub const MAX_REPORTS: usize = MAX_BLOCKS;
 
 /// The reports of one moment.
 pub type Reports = ArrayVec<SensorReport, MAX_REPORTS>;
@@ -52,7 +51,7 @@ pub(crate) fn occupied(trains: &[TrainState]) -> BlockSet
 
 /// Returns what the sensors report that found these blocks occupied and now find those: first the
 /// sensors whose block becomes occupied, then those whose block becomes free.
-#[tactic(auto, using(crate::proofs::Occupying::no_changes))]
+#[tactic(auto, using(crate::proofs::Occupying::no_changes, crate::proofs::Occupying::each_once))]
 pub(crate) fn changes(blocks: &[Block], was: BlockSet, is: BlockSet) -> Reports
     requires { length blocks.now ≤ 64 }
     ensures { result.items ≡ changes_of was is blocks.now }
@@ -69,10 +68,8 @@ pub(crate) fn changes(blocks: &[Block], was: BlockSet, is: BlockSet) -> Reports
 /// Adds the reports of those that change to one level.
 fn add_changes(reports: &mut Reports, level: bool, blocks: &[Block], was: BlockSet, is: BlockSet)
     requires blocks { length blocks.now ≤ 64 }
-    requires room { array_vec_len reports.old + length blocks.now ≤ 128 }
-    ensures added { reports.new.items
-        ≡ reports.old.items ++ changes_in level was is 0 blocks.now }
-    ensures few { array_vec_len reports.new ≤ array_vec_len reports.old + length blocks.now }
+    requires room { length reports.old.items + length (changes_in level was is 0 blocks.now) ≤ 64 }
+    ensures { reports.new.items ≡ reports.old.items ++ changes_in level was is 0 blocks.now }
 {
     for (i, block) in blocks.iter().enumerate() {
         if let Some(report) = change_of(level, block.sensor, was.has(i), is.has(i)) {
