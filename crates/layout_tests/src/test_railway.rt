@@ -91,7 +91,7 @@ fn carry_out(world: &mut World, railway: &mut Railway, step: Step) -> bool {
             say_missed(world, body, 1);
             true
         }
-        Step::Elapse(micros, rows) => are(&railway.elapse(micros, world), rows),
+        Step::Elapse(micros, rows) => are(&railway.elapse(micros, world).sensors, rows),
         Step::Place(position, rows) => match railway.place(0, position) {
             Ok(reports) => are(&reports, rows),
             Err(_) => false,

@@ -28,3 +28,4 @@ pub mod Driven
 pub mod Premises
 pub mod Unseen
 pub mod Speeds
+pub mod Reporting

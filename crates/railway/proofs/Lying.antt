@@ -6,10 +6,9 @@ use Rattle.layout_core.specs.declared.node.Node.{Node}
 use Rattle.refresh_ring.specs.declared.pick.Power.{Power}
 use Rattle.refresh_ring.specs.declared.pick.Power.TheVariants.{Off, Running as PowerOn, Paused}
 use Rattle.railway.specs.declared.joint.TurnoutState.{TurnoutState}
-use Rattle.railway.specs.Laws.{moved_on_under}
 use Rattle.railway.specs.Network.{lies}
 use Rattle.railway.specs.Railway.{RailwayState, run_through, ran_in}
-use Rattle.railway.specs.Turnouts.{asked, moved_on, same_bool}
+use Rattle.railway.specs.Turnouts.{asked, moved_on, moved_on_under, same_bool}
 
 -- Whatever trains do.
 

@@ -5,7 +5,9 @@ use Rattle.refresh_ring.specs.declared.pick.Power.{Power}
 use Rattle.ln_ops.specs.declared.sensor.SensorReport.{SensorReport}
 use Rattle.railway.specs.declared.fault.PlaceFault.{PlaceFault}
 use Rattle.railway.specs.declared.train.Position.{Position}
+use Rattle.railway.specs.declared.turnout_report.TurnoutReport.{TurnoutReport}
 use Rattle.railway.specs.Failures.{block_with, none_failing, with_failing, with_sensor}
+use Rattle.railway.specs.Feedback.{movements}
 use Rattle.railway.specs.Railway.{RailwayState, elapsed, is_sensed, place_fault, placed_in}
 use Rattle.railway.specs.Reports.{changes}
 
@@ -48,7 +50,17 @@ abbrev pub reports_of : RailwayState → Happening → List SensorReport
 reports_of railway happening =
     changes railway.network.blocks (is_sensed railway) (is_sensed (after railway happening))
 
--- all that is reported, in order
+-- what turnouts report of it
+abbrev pub movements_of : RailwayState → Happening → List TurnoutReport
+movements_of railway happening =
+    movements railway.network.turnouts (after railway happening).network.turnouts
+
+abbrev pub movements_of_all : RailwayState → List Happening → List TurnoutReport
+movements_of_all railway [] = []
+movements_of_all railway (happening ∷ happenings) =
+    movements_of railway happening ++ movements_of_all (after railway happening) happenings
+
+-- all that sensors report, in order
 abbrev pub reports_of_all : RailwayState → List Happening → List SensorReport
 reports_of_all railway [] = []
 reports_of_all railway (happening ∷ happenings) =

@@ -1,5 +1,5 @@
 -- Which ends of blocks joints and turnouts name.
-use Rattle.std.specs.Prelude.{ℕ, ◌&&◌, ◌++◌, Bool, true, not, nat_lt, if◌then◌else◌, List, [], ◌∷◌, Option, Some, None}
+use Rattle.std.specs.Prelude.{ℕ, ◌&&◌, ◌++◌, Bool, false, true, not, nat_lt, if◌then◌else◌, List, [], ◌∷◌, Option, Some, None}
 use Rattle.std.specs.List.{list_any}
 use Rattle.railway.specs.declared.block.BlockEnd.{BlockEnd}
 use Rattle.railway.specs.declared.joint.Joint.{Joint}
@@ -16,6 +16,7 @@ default_turnout = record {
   closed = default_end;
   thrown = default_end;
   time = 0;
+  has_feedback = false;
 }
 
 -- the end is one of a block of the plan

@@ -1,9 +1,8 @@
 -- What the laws of a railway speak of.
-use Rattle.std.specs.Prelude.{ℕ, ◌≡◌, ◌*◌, ◌<◌, ◌≤◌, ◌&&◌, Bool, true, false, not, List, [], ◌∷◌, length, Some, IsTrue}
+use Rattle.std.specs.Prelude.{ℕ, ◌≡◌, ◌≢◌, ◌⊎◌, ◌*◌, ◌<◌, ◌≤◌, ◌==◌, ◌&&◌, Bool, true, false, not, List, [], ◌∷◌, length, Some, IsTrue}
 use Rattle.std.specs.List.{list_any, slice_index_or}
 use Rattle.layout_core.specs.declared.node.Node.{Node}
 use Rattle.refresh_ring.specs.declared.pick.Power.{Power}
-use Rattle.refresh_ring.specs.declared.pick.Power.TheVariants.{Off, Running, Paused}
 use Rattle.ln_ops.specs.declared.sensor.SensorReport.{SensorReport}
 use Rattle.motion.specs.Velocity.{goes_only, velocity_after, way}
 use Rattle.motion.specs.declared.velocity.Drive.{Drive}
@@ -14,15 +13,17 @@ use Rattle.railway.specs.declared.failing_sensors.FailingSensors.{FailingSensors
 use Rattle.railway.specs.declared.joint.TurnoutState.{TurnoutState}
 use Rattle.railway.specs.declared.train.Place.{Place}
 use Rattle.railway.specs.declared.train.TrainState.{TrainState}
+use Rattle.railway.specs.declared.turnout_report.TurnoutReport.{TurnoutReport}
 use Rattle.railway.specs.Blocks.{default_block, length_of}
 use Rattle.railway.specs.Course.{Happening}
 use Rattle.railway.specs.Course.Happening.{Elapses, FailuresEnd, Places, SensorFails, TurnoutFails}
-use Rattle.railway.specs.Network.{Network, is_end_of, is_moving, way_on}
+use Rattle.railway.specs.Feedback.{report_at}
+use Rattle.railway.specs.Network.{Network, is_end_of, is_moving, lies, way_on}
 use Rattle.railway.specs.Places.{is_derailed, leading_end, span, turned_place}
 use Rattle.railway.specs.Railway.{run_under}
 use Rattle.railway.specs.Reports.{occupies}
 use Rattle.railway.specs.Trains.{drive_of, is_forward, running_in, speed_of}
-use Rattle.railway.specs.Turnouts.{checked, moved_on, laid}
+use Rattle.railway.specs.Turnouts.{checked, laid, same_bool}
 
 -- the place is in a block of the plan, within its length
 pub record IsOnTrack (blocks : List Block) (place : Place) : Type 0 where
@@ -83,15 +84,14 @@ abbrev pub speed_times_time : List Node → (micros : ℕ) → TrainState → �
 speed_times_time nodes micros train =
     speed_of train.top (running_in nodes train.decoder) * micros
 
--- a turnout after so many microseconds, which it moves by track power
-abbrev pub moved_on_under : Power → (micros : ℕ) → TurnoutState → TurnoutState
-moved_on_under Off micros state = state
-moved_on_under Running micros state = moved_on micros state
-moved_on_under Paused micros state = moved_on micros state
-
 -- the end is one of a turnout that moves
 abbrev pub is_moving_end : List TurnoutState → BlockEnd → Bool
 is_moving_end states end = list_any (λ state. is_moving state && is_end_of end state) states
+
+-- a happening is a time
+abbrev pub is_time : Happening → Bool
+is_time (Elapses micros power nodes) = true
+is_time other = false
 
 -- a happening is a failure, or ends all
 abbrev pub is_failure : Happening → Bool
@@ -124,6 +124,32 @@ abbrev pub AreChanges : List Block → (was is : (block : ℕ) → Bool) → Lis
 AreChanges blocks was is [] = Unit {0}
 AreChanges blocks was is (report ∷ reports) =
     IsChange blocks was is report × AreChanges blocks was is reports
+
+-- A report is one of a completed movement: of a turnout with feedback that moved, or lay at the other
+-- side, and now lies where the report says.
+pub record IsCompleted (was is : List TurnoutState) (none : TurnoutState)
+    (report : TurnoutReport) : Type 0 where
+  pub turnout : ℕ
+  pub of_plan : turnout < length is
+  pub feedback : IsTrue (slice_index_or is turnout none).turnout.has_feedback
+  pub reported : report ≡ report_at (slice_index_or is turnout none)
+  pub lies_now : IsTrue (lies (slice_index_or is turnout none))
+  pub moved : IsTrue (is_moving (slice_index_or was turnout none))
+      ⊎ ((slice_index_or was turnout none).is_thrown
+      ≢ (slice_index_or is turnout none).is_thrown)
+
+-- each of the reports is one of a completed movement
+abbrev pub AreCompleted : (was is : List TurnoutState) → (none : TurnoutState)
+    → List TurnoutReport → Type 0
+AreCompleted was is none [] = Unit {0}
+AreCompleted was is none (report ∷ reports) =
+    IsCompleted was is none report × AreCompleted was is none reports
+
+-- this report is among these
+abbrev pub is_among : TurnoutReport → List TurnoutReport → Bool
+is_among report reports =
+    list_any (λ one. one.switch == report.switch && same_bool one.is_thrown report.is_thrown)
+    reports
 
 -- two different trains are in the block
 pub record IsConflict (trains : List TrainState) (block first second : ℕ)

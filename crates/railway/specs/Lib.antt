@@ -7,6 +7,7 @@ pub mod Driven
 pub mod Ends
 pub mod Failures
 pub mod Faults
+pub mod Feedback
 pub mod Laws
 pub mod Network
 pub mod Passing

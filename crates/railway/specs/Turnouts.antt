@@ -6,6 +6,8 @@ use Rattle.std.specs.Option.{option_and_then}
 use Rattle.decoder_node.specs.declared.node.NodeSpec.{NodeSpec}
 use Rattle.layout_core.specs.declared.node.Node.{Node}
 use Rattle.layout_core.specs.Nodes.{outputs_of}
+use Rattle.refresh_ring.specs.declared.pick.Power.{Power}
+use Rattle.refresh_ring.specs.declared.pick.Power.TheVariants.{Off, Running, Paused}
 use Rattle.railway.specs.declared.block.BlockEnd.{BlockEnd}
 use Rattle.railway.specs.declared.joint.Turnout.{Turnout}
 use Rattle.railway.specs.declared.joint.TurnoutState.{TurnoutState}
@@ -106,7 +108,13 @@ checked nodes network train =
 abbrev pub moved_on : (micros : ℕ) → TurnoutState → TurnoutState
 moved_on micros state = record state { left = state.left - micros }
 
--- each does
+-- a turnout after so many microseconds, which it moves by track power
+abbrev pub moved_on_under : Power → (micros : ℕ) → TurnoutState → TurnoutState
+moved_on_under Off micros state = state
+moved_on_under Running micros state = moved_on micros state
+moved_on_under Paused micros state = moved_on micros state
+
+-- each moves on
 abbrev pub advanced : (micros : ℕ) → Network → Network
 advanced micros network = record network { turnouts = map (moved_on micros) network.turnouts }
 

@@ -23,6 +23,8 @@ pub struct Turnout {
     pub thrown: BlockEnd,
     /// How long it moves from one side to the other, in milliseconds; 0 for at once.
     pub time: u16,
+    /// Whether a contact of its own reports where it lies.
+    pub has_feedback: bool,
 }
 
 /// A turnout as it lies or moves.
@@ -64,6 +66,7 @@ impl Default for Turnout {
             closed: BlockEnd::default(),
             thrown: BlockEnd::default(),
             time: 0,
+            has_feedback: false,
         }
     }
 }

@@ -1,6 +1,6 @@
 //! The laws of a railway, each as a function that does nothing and ensures it: a call hands the
 //! law to a proof.
-ghost use Rattle.std.specs.Prelude.{◌≡◌, ◌≢◌, ◌↔◌, ◌⊎◌, ℕ, ◌+◌, ◌*◌, ◌/◌, ◌<◌, ◌≤◌, Bool, List, length, map, not, true, false, IfSome, IsTrue, Some, None};
+ghost use Rattle.std.specs.Prelude.{◌≡◌, ◌≢◌, ◌↔◌, ◌⊎◌, ℕ, ◌+◌, ◌*◌, ◌/◌, ◌<◌, ◌≤◌, Bool, List, [], length, map, not, true, false, IfSome, IsTrue, Some, None};
 ghost use Rattle.std.specs.List.{slice_index_or};
 ghost use Rattle.dcc_packet.specs.declared.steps.Motion.TheVariants.{Emergency, Stop};
 ghost use Rattle.decoder_node.specs.declared.node.NodeSpec.{NodeSpec};
@@ -19,20 +19,22 @@ ghost use Rattle.railway.specs.declared.joint.TurnoutState.{TurnoutState};
 ghost use Rattle.railway.specs.declared.plan.Plan.{Plan};
 ghost use Rattle.railway.specs.declared.train.Place.{Place};
 ghost use Rattle.railway.specs.declared.train.TrainState.{TrainState};
+ghost use Rattle.railway.specs.declared.turnout_report.TurnoutReport.{TurnoutReport};
 ghost use Rattle.railway.specs.Blocks.{default_block, length_of};
 ghost use Rattle.railway.specs.Conflicts.{conflict_in};
 ghost use Rattle.railway.specs.Driven.{AllLeaveAlone, AreDrivenBy, HasRun, time_in};
-ghost use Rattle.railway.specs.Course.{Happening, after, after_all, reports_of_all};
-ghost use Rattle.railway.specs.Laws.{AreChanges, HasAllBlocks, IsConflict, IsOnRails, IsOnWay, StandsBetween, is_failure, is_moving_end, is_sensor_failure, leading, moved_on_under, runs_only, speed_times_time, train_after, velocity_of, way_of};
+ghost use Rattle.railway.specs.Course.{Happening, after, after_all, movements_of, movements_of_all, reports_of_all};
+ghost use Rattle.railway.specs.Laws.{AreChanges, AreCompleted, HasAllBlocks, IsCompleted, IsConflict, IsOnRails, IsOnWay, StandsBetween, is_among, is_failure, is_moving_end, is_sensor_failure, is_time, leading, runs_only, speed_times_time, train_after, velocity_of, way_of};
 ghost use Rattle.railway.specs.Failures.{failing_by, has_switch, none_failing, with_sensor};
 ghost use Rattle.railway.specs.Faults.{fault_of};
+ghost use Rattle.railway.specs.Feedback.{full_turnouts, is_alone, turnout_report_bytes, side_after, turnout_report_of};
 ghost use Rattle.railway.specs.Passing.{GoesShort, IsOfPlan, is_no_faster, longest_turn};
-ghost use Rattle.railway.specs.Network.{Network, exit_of, is_sound, lies, onward, switch_at, way_on};
+ghost use Rattle.railway.specs.Network.{Network, exit_of, is_sound, lies, onward, switch_at, turnouts_of, way_on};
 ghost use Rattle.railway.specs.Places.{end_ahead, is_derailed, leading_end, span, still, to_end};
 ghost use Rattle.railway.specs.Railway.{RailwayState, elapsed, is_piece, is_railway, is_sensed, is_train, laid_in, ran_in, reports_in, run_in, run_under};
 ghost use Rattle.railway.specs.Reports.{full, is_occupied, level_after, occupies, senses};
 ghost use Rattle.railway.specs.Trains.{is_forward, running_in};
-ghost use Rattle.railway.specs.Turnouts.{asked, checked, is_changed, is_moved_end, laid, moved_on, observed, outputs_in, seen_of};
+ghost use Rattle.railway.specs.Turnouts.{asked, checked, is_changed, is_moved_end, laid, moved_on, moved_on_under, observed, outputs_in, seen_of};
 
 /// Each train is in blocks of the plan, within their lengths. Its ends are as far apart as its
 /// length along the track, in both directions, or it is derailed.
@@ -68,12 +70,15 @@ pub fn time_adds_up()
         ≡ elapsed railway (these + those) power nodes }
 {}
 
-/// What holds of every railway holds after whatever happens to it, and its blocks stay.
+/// What holds of every railway holds after whatever happens to it. Its blocks and turnouts stay.
 pub fn railways_are_kept()
     ensures kept { (railway : RailwayState) (happening : Happening)
         → IsTrue (is_railway railway) → IsTrue (is_railway (after railway happening)) }
     ensures blocks { (railway : RailwayState) (happening : Happening)
         → (after railway happening).network.blocks ≡ railway.network.blocks }
+    ensures turnouts { (railway : RailwayState) (happening : Happening)
+        → turnouts_of (after railway happening).network.turnouts
+        ≡ turnouts_of railway.network.turnouts }
 {
     time_adds_up();
 }
@@ -359,6 +364,47 @@ pub fn nothing_passes_unseen()
 {
     motion::laws::times_add_up();
 }
+
+/// Turnouts with feedback report exactly their completed movements: nothing while they move, and
+/// nothing without a movement. No failure and no placement makes such a report.
+pub fn turnouts_report_movements()
+    ensures only { (railway : RailwayState) (happening : Happening) (none : TurnoutState)
+        → AreCompleted railway.network.turnouts (after railway happening).network.turnouts none
+        (movements_of railway happening) }
+    ensures each { (railway : RailwayState) (happening : Happening) (none : TurnoutState)
+        (report : TurnoutReport)
+        → IsCompleted railway.network.turnouts (after railway happening).network.turnouts none
+        report → IsTrue (is_among report (movements_of railway happening)) }
+    ensures time { (railway : RailwayState) (happening : Happening)
+        → is_time happening ≡ false → movements_of railway happening ≡ [] }
+{}
+
+/// An observer of a full report of the turnouts and of each report from then on knows the side of a
+/// turnout with feedback whenever it lies, if no other with feedback has its switch.
+pub fn observers_know_turnouts()
+    ensures full { (railway : RailwayState) (turnout switch : ℕ) (before : Bool)
+        (none : TurnoutState)
+        → IsTrue (is_alone turnout switch (turnouts_of railway.network.turnouts))
+        → IsTrue (lies (slice_index_or railway.network.turnouts turnout none))
+        → side_after (full_turnouts railway.network.turnouts) switch before
+        ≡ (slice_index_or railway.network.turnouts turnout none).is_thrown }
+    ensures after { (railway : RailwayState) (happenings : List Happening) (turnout switch : ℕ)
+        (side : Bool) (none : TurnoutState)
+        → IsTrue (is_alone turnout switch (turnouts_of railway.network.turnouts))
+        → (IsTrue (lies (slice_index_or railway.network.turnouts turnout none))
+        → side ≡ (slice_index_or railway.network.turnouts turnout none).is_thrown)
+        → IsTrue (lies (slice_index_or (after_all railway happenings).network.turnouts
+        turnout none))
+        → side_after (movements_of_all railway happenings) switch side
+        ≡ (slice_index_or (after_all railway happenings).network.turnouts turnout
+        none).is_thrown }
+{}
+
+/// The message of a turnout's report is read back as it, as layout software reads it.
+pub fn turnout_reports_are_read_back()
+    ensures read { (report : TurnoutReport) → 1 ≤ report.switch → report.switch ≤ 2048
+        → turnout_report_of (turnout_report_bytes report) ≡ Some report }
+{}
 
 /// A conflict is reported of a block exactly if two different trains are in it.
 pub fn conflicts_are_two_trains()

@@ -19,7 +19,7 @@ type Turnouts = ArrayVec<TurnoutState, MAX_TURNOUTS>;
 
 impl TurnoutState {
     /// Returns the turnout `micros` microseconds later.
-    fn moved_on(&self, micros: u32) -> TurnoutState
+    pub(crate) fn moved_on(&self, micros: u32) -> TurnoutState
         ensures { result ≡ moved_on micros self.now }
     {
         TurnoutState {

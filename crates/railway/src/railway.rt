@@ -3,6 +3,7 @@ ghost use Rattle.std.specs.Prelude.{◌≡◌, ◌<◌, ◌≤◌, ℕ, Bool, If
 ghost use Rattle.std.specs.List.{list_all};
 ghost use Rattle.railway.specs.Conflicts.{conflicts};
 ghost use Rattle.railway.specs.Faults.{fault_of};
+ghost use Rattle.railway.specs.Feedback.{movements_in};
 ghost use Rattle.railway.specs.Network.{exit_of};
 ghost use Rattle.railway.specs.Railway.{elapsed, is_piece, is_sensed, is_railway, laid_in, place_fault, placed_in, planned, reports_in, run_through, speed_in};
 ghost use Rattle.railway.specs.Reports.{AreMarked, changes, full, is_occupied, is_report};
@@ -15,6 +16,7 @@ use crate::conflict::{Conflicts, conflicts};
 use crate::exit::Exit;
 use crate::failing_sensors::FailingSensors;
 use crate::fault::{PlaceFault, PlanFault};
+use crate::feedback::{TimeReports, TurnoutReports};
 use crate::joint::{Joint, Turnout, TurnoutState};
 use crate::placement::has_front;
 use crate::plan::{MAX_TURNOUTS, Plan};
@@ -98,18 +100,34 @@ impl Railway {
     /// A turnout moves to the side of the output that came on last, and takes its time. A train runs as
     /// its decoder runs, up to a buffer stop. It is derailed if a turnout begins to move under it, or
     /// moves or lies against it. Without track power trains and turnouts stand. Returns the reports of the
-    /// sensors that now find their blocks occupied, then of those that find them free.
-    pub fn elapse(&mut self, micros: u32, world: &World) -> Reports
+    /// sensors that now find their blocks occupied, then of those that find them free, and of each
+    /// turnout with feedback that has come to lie.
+    pub fn elapse(&mut self, micros: u32, world: &World) -> TimeReports
         ensures railway { self.new
             ≡ elapsed self.old micros world.now.station.powered.power world.now.nodes }
-        ensures reports { result.items
+        ensures reports { result.sensors.items
             ≡ reports_in self.old micros world.now.station.powered.power world.now.nodes }
-        ensures sensors { IsTrue (list_all is_report result.items) }
+        ensures turnouts { result.turnouts.items
+            ≡ movements_in self.old micros world.now.station.powered.power world.now.nodes }
+        ensures sensors { IsTrue (list_all is_report result.sensors.items) }
     {
         let before = self.sensed();
+        let turnouts = self.movements(micros, world);
         self.lay(world);
         self.pass(micros, world);
-        self.changes_since(before)
+        TimeReports {
+            sensors: self.changes_since(before),
+            turnouts,
+        }
+    }
+
+    /// Returns what turnouts report of the next `micros` microseconds.
+    #[tactic(auto, using(crate::proofs::Reporting::in_parts))]
+    fn movements(&self, micros: u32, world: &World) -> TurnoutReports
+        ensures { result.items
+            ≡ movements_in self.now micros world.now.station.powered.power world.now.nodes }
+    {
+        self.track.movements(micros, world)
     }
 
     /// Lets `micros` microseconds pass in which no decoder does anything else: in pieces, each until

@@ -46,6 +46,7 @@ fn turnout(switch: u16, common: BlockEnd, [closed, thrown]: [BlockEnd; 2]) -> Tu
         closed,
         thrown,
         time: 0,
+        has_feedback: false,
     }
 }
 

@@ -8,6 +8,7 @@ use Rattle.railway.specs.Railway.{RailwayState, elapsed, is_railway}
 use Rattle.railway.specs.Failures.{block_with}
 use Rattle.railway.proofs.Faulty.{failing-railway, sensor-railway}
 use Rattle.railway.proofs.Placing.{places-railway, same-blocks}
+use Rattle.railway.proofs.Reporting.{of-plan}
 use Rattle.railway.proofs.laws.railways_are_kept.Goals as goal
 
 kept : ((railway : RailwayState) (power : Power) (nodes : List Node) (micros : ℕ) → IsTrue (is_railway railway) → IsTrue (is_railway (elapsed railway micros power nodes)))
@@ -19,4 +20,4 @@ kept runs railway (TurnoutFails switch) is = failing-railway railway (Some switc
 kept runs railway FailuresEnd is = failing-railway railway None is
 
 pub returns : goal.returns
-returns c = record { kept = kept c.time_adds_up.ensures.kept; blocks = same-blocks }
+returns c = record { kept = kept c.time_adds_up.ensures.kept; blocks = same-blocks; turnouts = of-plan }
