@@ -1,9 +1,9 @@
 -- The format of a track plan. Each part is read in the order in which its faults count, and the
 -- first decides.
-use Rattle.std.specs.Prelude.{ℕ, ℤ, pos, negsuc, ◌+◌, ◌++◌, ◌&&◌, Bool, nat_le, nat_lt, if◌then◌else◌, List, [], ◌∷◌, length, map, Option, Some, None, is_some, option_and_then, Result, Ok, Err, codes}
+use Rattle.std.specs.Prelude.{ℕ, ℤ, pos, negsuc, ◌+◌, ◌++◌, ◌&&◌, Bool, false, nat_le, nat_lt, if◌then◌else◌, List, [], ◌∷◌, length, map, Option, Some, None, is_some, option_and_then, Result, Ok, Err, codes}
 use Rattle.std.specs.List.{list_all}
 use Rattle.std.specs.Str.{bytes_eq}
-use Rattle.toml.specs.Data.{Data, Items, no_items, item, Members, get_member, as_array, as_integer, as_str, as_table}
+use Rattle.toml.specs.Data.{Data, Items, no_items, item, Members, get_member, as_array, as_bool, as_integer, as_str, as_table}
 use Rattle.motion.specs.declared.velocity.Momentum.{Momentum}
 use Rattle.text.specs.Names.{is_name_byte}
 use Rattle.roster.specs.Steps.{◌>>=◌, or_fault}
@@ -46,6 +46,7 @@ spelled key.Common = codes "common"
 spelled key.Closed = codes "closed"
 spelled key.Thrown = codes "thrown"
 spelled key.Time = codes "time"
+spelled key.Feedback = codes "feedback"
 spelled key.Decoder = codes "decoder"
 spelled key.Front = codes "front"
 spelled key.Facing = codes "facing"
@@ -196,8 +197,14 @@ time_or_none None = Ok 0
 time_or_none (Some value) =
     or_fault (as_integer value) (BadKey key.Time) >>= in_range key.Time (from_to 0 10000)
 
+-- a turnout has no feedback if it is left out
+abbrev pub feedback_or_none : Option Data → Result Bool Why
+feedback_or_none None = Ok false
+feedback_or_none (Some value) = or_fault (as_bool value) (BadKey key.Feedback)
+
 abbrev pub turnout_keys : List Key
-turnout_keys = key.Switch ∷ key.Common ∷ key.Closed ∷ key.Thrown ∷ key.Time ∷ []
+turnout_keys =
+    key.Switch ∷ key.Common ∷ key.Closed ∷ key.Thrown ∷ key.Time ∷ key.Feedback ∷ []
 
 abbrev pub turnout_in : List Text → Members → Result Turnout Why
 turnout_in blocks given = do
@@ -207,7 +214,15 @@ turnout_in blocks given = do
   closed ← end_at blocks key.Closed table
   thrown ← end_at blocks key.Thrown table
   time ← time_or_none (value_at key.Time table)
-  Ok (record { switch = switch; common = common; closed = closed; thrown = thrown; time = time })
+  has_feedback ← feedback_or_none (value_at key.Feedback table)
+  Ok (record {
+    switch = switch;
+    common = common;
+    closed = closed;
+    thrown = thrown;
+    time = time;
+    has_feedback = has_feedback;
+  })
 
 -- Trains: the decoder by its name in the roster, the block, how far the front is from end A, the
 -- end that it faces, the length, the speed at the last step, and how fast it gathers speed and brakes.

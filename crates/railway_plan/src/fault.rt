@@ -181,6 +181,7 @@ fn write_demand<W: fmt::Write>(key: Key, f: &mut fmt::Formatter<W>) -> fmt::Resu
         Key::Front => write_bounds(key, FRONT, f),
         Key::Speed => write_bounds(key, SPEED, f),
         Key::Time => write_bounds(key, TIME, f),
+        Key::Feedback => f.write_str("feedback must be true or false"),
         Key::Acceleration | Key::Braking => write_bounds(key, RATE, f),
         Key::A | Key::B => write!(f, "{key} must be two numbers from -10000 to 10000"),
         Key::Ends => f.write_str("ends must be two ends of blocks"),

@@ -14,7 +14,9 @@ pub(crate) const BLOCK_KEYS: [&'static str; 5] = ["name", "length", "sensor", "a
 pub(crate) const JOINT_KEYS: [&'static str; 1] = ["ends"];
 
 /// The keys of a turnout.
-pub(crate) const TURNOUT_KEYS: [&'static str; 5] = ["switch", "common", "closed", "thrown", "time"];
+pub(crate) const TURNOUT_KEYS: [&'static str; 6] = [
+    "switch", "common", "closed", "thrown", "time", "feedback",
+];
 
 /// The keys of a train.
 pub(crate) const TRAIN_KEYS: [&'static str; 8] = [
@@ -47,6 +49,7 @@ pub enum Key {
     Closed,
     Thrown,
     Time,
+    Feedback,
     Decoder,
     Front,
     Facing,
@@ -77,6 +80,7 @@ impl Key {
             Key::Closed => "closed",
             Key::Thrown => "thrown",
             Key::Time => "time",
+            Key::Feedback => "feedback",
             Key::Decoder => "decoder",
             Key::Front => "front",
             Key::Facing => "facing",

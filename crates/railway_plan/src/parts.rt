@@ -11,7 +11,7 @@ use crate::bounds::{FRONT, LENGTH, SPEED, SWITCH, TRAIN_LENGTH};
 use crate::fault::Why;
 use crate::key::{BLOCK_KEYS, JOINT_KEYS, Key, TRAIN_KEYS, TURNOUT_KEYS};
 use crate::names::{block_end, block_index, decoder_index};
-use crate::table::{number_at, point, rate, sensor, text_at, time, value_at};
+use crate::table::{feedback, number_at, point, rate, sensor, text_at, time, value_at};
 use railway::{
     Block, BlockEnd, End, Joint, LONGEST_NAME, Momentum, Name, Position, Train, Turnout,
 };
@@ -146,6 +146,7 @@ pub(crate) fn turnout(blocks: &[Block], value: &Value) -> Result<Turnout, Why>
         closed: end_at(blocks, table, Key::Closed)?,
         thrown: end_at(blocks, table, Key::Thrown)?,
         time: time(value_at(table, Key::Time))?,
+        has_feedback: feedback(value_at(table, Key::Feedback))?,
     })
 }
 

@@ -1,7 +1,7 @@
 //! What a table of a plan's text has at its keys.
 ghost use Rattle.std.specs.Prelude.{◌≡◌, Ok, Err, MatchResult, map, option_map};
 ghost use Rattle.toml.specs.View.{items_view, table_view, view};
-ghost use Rattle.railway_plan.specs.Format.{array_or_none, in_range, is_coordinate, number_at, point_of, point_of_items, point_of_two, point_or_none, rate_or_none, sensor_or_none, text_at, time_or_none, value_at};
+ghost use Rattle.railway_plan.specs.Format.{array_or_none, feedback_or_none, in_range, is_coordinate, number_at, point_of, point_of_items, point_of_two, point_or_none, rate_or_none, sensor_or_none, text_at, time_or_none, value_at};
 
 use crate::bounds::{Bounds, RATE, SENSOR, TIME};
 use crate::fault::Why;
@@ -95,6 +95,19 @@ pub(crate) fn time(value: Option<&Value>) -> Result<u16, Why>
     match value.as_integer() {
         Some(number) => Ok(in_range(Key::Time, TIME, number)? as u16),
         None => Err(Why::BadKey(Key::Time)),
+    }
+}
+
+/// Returns whether a turnout has feedback; it has none if that is left out.
+pub(crate) fn feedback(value: Option<&Value>) -> Result<bool, Why>
+    ensures { result ≡ feedback_or_none (option_map (λ value. view value.now) value.entry) }
+{
+    let Some(value) = value else {
+        return Ok(false);
+    };
+    match value.as_bool() {
+        Some(has_feedback) => Ok(has_feedback),
+        None => Err(Why::BadKey(Key::Feedback)),
     }
 }
 
