@@ -35,7 +35,7 @@ use Rattle.service_mode.specs.declared.packet.ServicePacket.{ServicePacket}
 use Rattle.programming_track.specs.Bench.{BenchState, name_at, next_change, number_at, value_at}
 use Rattle.bus_server.specs.Placement.{answered, place_answer}
 use Rattle.programming_track.specs.declared.packet_end.NamedChange.{NamedChange}
-use Rattle.bus_server.specs.Programming.{device_answer, programmed, reply_by}
+use Rattle.bus_server.specs.Programming.{device_answer, device_reply, programmed}
 use Rattle.bus_server.specs.SendQueue.{enqueued, is_more_than_half, queued}
 use Rattle.bus_server.specs.Rounds.{IsReadOn, IsRound, IsUnread, Reads, ReadsOn, ServesClient, ServesClients, is_read, is_reading, is_write_blocked, nth_client}
 use Rattle.bus_server.specs.declared.pace.Pace.{Pace}
@@ -48,7 +48,7 @@ use Rattle.bus_server.proofs.Going.{log-append}
 use Rattle.bus_server.proofs.Keeping.{enqueued_there, joined_one, none_of_both, none_set, only_joins, only_leaves, left_is_not_late, put_keeps, row_before, row_behind, set_at}
 use Rattle.bus_server.proofs.Placing.{length-enqueued}
 use Rattle.bus_server.proofs.Rounding.{accepts_apply, accepts_unread, early_applies, early_unread}
-use Rattle.bus_server.proofs.Sizes.{HasFew, HasFewBlocks, Limits, answered_request, text_size, event_few, message_size, none_due, owed, request_most}
+use Rattle.bus_server.proofs.Sizes.{HasFew, HasFewParts, Limits, answered_request, text_size, event_few, message_size, none_due, owed, request_most}
 
 -- What is queued for a client, and with it what is still due, which is at most as many bytes; nothing has overflowed.
 
@@ -147,7 +147,7 @@ request_within client reader n None old new queues connected few most room h = s
 request_within client reader n (Some (Invalid reason)) old new queues connected few most room h =
     enqueues_within client n (n + 3579) (Rejected reader reason) old new queues connected few (omega (arith, most, few.0, h.1)) room h
 request_within client reader n (Some (Send message)) old new queues connected few most room h =
-    enqueues_within client n (n + 3579) (Sent reader message (reply_by old.programming message (reply_to old.bus (Some (Send message))))) old new queues connected few (omega (arith, most, few.0, h.1)) room h
+    enqueues_within client n (n + 3579) (Sent reader message (device_reply old.programming old.railway message (reply_to old.bus (Some (Send message))))) old new queues connected few (omega (arith, most, few.0, h.1)) room h
 request_within client reader n (Some (Turns count)) old new queues connected few most room h =
     enqueues_within client n (n + 3579) (TurnsRequested reader (granted old.bus.options.is_stepped count)) old new queues connected few (omega (arith, most, few.0, h.1)) room h
 request_within client reader n (Some (Place placement)) old new queues connected few most room h =
@@ -169,7 +169,7 @@ report_within : (client n : ℕ) (message : List ℕ) (observed : Observation) (
 report_within client n message observed old new runs room h =
     let next = runs.unreported in
     let less : owed old.unreported ≡ text_size next.0 + owed new.unreported = ap owed next.1 in
-    let few : HasFew new = (omega (arith, less, h.3.0), subst HasFewBlocks (sym runs.railway) h.3.1) in
+    let few : HasFew new = (omega (arith, less, h.3.0), subst HasFewParts (sym runs.railway) h.3.1) in
     enqueues_within client n n (Reported message) old new runs.queues (ap (λ (bus : BusState). is_some (slice_index_or bus.clients client None)) runs.bus) few
     (omega (arith, message_size next.0 message next.3, less, h.1)) room h
 
@@ -177,7 +177,7 @@ packet_within : (client n : ℕ) (packet : ServicePacket) (change : Option Named
 packet_within client n packet change observed old new runs h =
     let next = runs.unreported in
     let less : owed old.unreported ≡ text_size next.0 + owed new.unreported = ap owed next.1 in
-    let few : HasFew new = (omega (arith, less, h.3.0), subst HasFewBlocks (sym runs.railway) h.3.1) in
+    let few : HasFew new = (omega (arith, less, h.3.0), subst HasFewParts (sym runs.railway) h.3.1) in
     same_within client n n old new runs.queues (ap (λ (bus : BusState). is_some (slice_index_or bus.clients client None)) runs.bus) few (omega (arith, less, h.1)) h
 
 one_report_within : (client n : ℕ) (event : Event) (observed : Observation) (old new : ServerState) → is_report event ≡ true → RunsEvent event observed old new → n ≤ 65536 → Within client n old → Within client n new
@@ -346,7 +346,7 @@ version_most true = omega arith
 version_most false = omega arith
 
 -- a client that connects has the version line in its queue, and no more
-joined_within : (client : ℕ) (observed : Observation) (old new : ServerState) → RunsEvent (Connects client) observed old new → client < length old.queues → HasFewBlocks old.railway → Within client 26 new
+joined_within : (client : ℕ) (observed : Observation) (old new : ServerState) → RunsEvent (Connects client) observed old new → client < length old.queues → HasFewParts old.railway → Within client 26 new
 joined_within client observed old new runs there few =
     let queues : new.queues ≡ enqueued_all (Connected client) (slice_set old.queues client (Some [])) = runs.queues in
     let queue : slice_index_or new.queues client None ≡ Some version_text = ap (λ (all : SendQueues). slice_index_or all client None) queues ∙ joined_one old.queues client there in
@@ -356,7 +356,7 @@ joined_within client observed old new runs there few =
           (omega (arith, there, length-enqueued 0 (λ i. text_for i (Connected client)) (slice_set old.queues client (Some [])), length-set_queue old.queues client (Some []))),
       omega (arith, put, none),
       opened (is_connected new client) (slice_index_or new.queues client None) version_text queue,
-      (omega (arith, none), subst HasFewBlocks (sym runs.railway) few),
+      (omega (arith, none), subst HasFewParts (sym runs.railway) few),
     )
 
 joins_within : (client other n : ℕ) (observed : Observation) (old new : ServerState) → 26 ≤ n → n ≤ 65536 → RunsEvent (Connects other) observed old new → Within client n old → Within client n new
@@ -367,7 +367,7 @@ joins_within client other n observed old new least room runs h = elim (cases_eq 
       let queue : slice_index_or before client None ≡ slice_index_or old.queues client None = get_or-set_other old.queues other client (Some []) None differs in
       let text : length (text_for client (Connected other)) ≡ 0 = ap (λ (b : Bool). length (if b then version_text else [])) (ne_eqb other client (λ same. differs (sym same))) in
       let none : owed new.unreported ≡ 0 = ap owed runs.unreported.1 in
-      let few : HasFew new = (omega (arith, none), subst HasFewBlocks (sym runs.railway) h.3.1) in
+      let few : HasFew new = (omega (arith, none), subst HasFewParts (sym runs.railway) h.3.1) in
       let opened : ServerState = record old { queues = before } in
       let as_old : size client opened ≡ size client old = ap (λ (q : Option (List ℕ)). length (queued q)) queue in
       let prepared : Within client n opened = (
@@ -386,7 +386,7 @@ leaves_within client other n observed old new runs h =
     let queues : new.queues ≡ slice_set old.queues other None = runs.queues in
     let there : client < length new.queues = subst (λ (all : SendQueues). client < length all) (sym queues) (omega (arith, h.0, length-set_queue old.queues other None)) in
     let none : owed new.unreported ≡ 0 = ap owed runs.unreported.1 in
-    let few : HasFew new = (omega (arith, none), subst HasFewBlocks (sym runs.railway) h.3.1) in
+    let few : HasFew new = (omega (arith, none), subst HasFewParts (sym runs.railway) h.3.1) in
     elim (cases_eq client other) [
       | inl same ↦
           let leaves : RunsEvent (Disconnects client) observed old new = subst (λ (i : ℕ). RunsEvent (Disconnects i) observed old new) (sym same) runs in

@@ -1,11 +1,9 @@
 -- What a client knows of a sensor by the reports on the bus.
 use Rattle.std.proofs.Common.{◌≡◌, ℕ, ◌<◌, Bool, true, false, if◌then◌else◌, List, [], ◌∷◌, ◌++◌, length, Option, None, Some, refl, ap, ap₂, sym, subst, ◌∙◌, append-nil, nat_le}
 use Rattle.std.specs.Prelude.{◌==◌, Err, IsTrue, Ok, is_some, not}
-use Rattle.std.specs.List.{flat_map, list_all, slice_index_or}
-use Rattle.std.specs.Option.{option_map, option_to_list}
-use Rattle.std.proofs.lemmas.Bool.{and_parts}
+use Rattle.std.specs.List.{find, slice_index_or}
+use Rattle.std.specs.Option.{option_and_then, option_map, option_or, option_to_list}
 use Rattle.std.proofs.lemmas.List.Concat.{flat_map-append}
-use Rattle.std.proofs.lemmas.List.Folds.{list_all-append}
 use Rattle.layout_core.specs.declared.node.Node.{Node}
 use Rattle.refresh_ring.specs.declared.pick.Power.{Power}
 use Rattle.ln_ops.specs.declared.sensor.SensorReport.{SensorReport}
@@ -20,9 +18,12 @@ use Rattle.bus.specs.declared.outcome.Outcome.TheVariants.{Nothing, Sent, TurnBe
 use Rattle.loconet_tcp.specs.declared.request.Request.{Request}
 use Rattle.loconet_tcp.specs.declared.request.Request.TheVariants.{Invalid, States, Place, Device, Send, Turns}
 use Rattle.railway.specs.declared.block.Block.{Block}
+use Rattle.railway.specs.declared.joint.TurnoutState.{TurnoutState}
+use Rattle.railway.specs.declared.turnout_report.TurnoutReport.{TurnoutReport}
 use Rattle.railway.specs.Blocks.{default_block}
 use Rattle.railway.specs.Course.{Happening, after, after_all, reports_of, reports_of_all}
 use Rattle.railway.specs.Course.Happening.{Elapses as TimeElapses}
+use Rattle.railway.specs.Feedback.{is_with_feedback, requested_switch, state_bytes, state_answer}
 use Rattle.railway.specs.Railway.{RailwayState, is_railway, is_sensed}
 use Rattle.railway.specs.Reports.{full, level_after}
 use Rattle.service_mode.specs.declared.packet.ServicePacket.{ServicePacket}
@@ -39,21 +40,17 @@ use Rattle.bus.specs.declared.event.Event.{Event}
 use Rattle.bus.specs.declared.event.Event.TheVariants.{Connects, Receives, Disconnects, Reports, Programs, Elapses, Turn}
 use Rattle.bus.specs.Bus.{BusState, client_of, for_station, outcome_of, outcome_of_request, request_at}
 use Rattle.bus_server.specs.Observations.{Observation, Observed}
-use Rattle.bus_server.specs.ServerState.{Applies, AppliesAll, Handled, LoggedEvent, RunsEvent, RunsEvents, ServerState, outcome_in, with_backlog, round_start}
+use Rattle.bus_server.specs.ServerState.{RunsEvent, ServerState, outcome_in}
 use Rattle.bus_server.specs.Known.{ClaimNothing, IsKnown, IsSensorOf, is_no_claim, level_by, messages_of, received_in, reports_read}
-use Rattle.bus_server.specs.declared.pace.Pace.{Pace}
 use Rattle.bus_server.specs.Running.{Round, RunsRounds, logged_in}
 use Rattle.bus_server.specs.declared.device_report.DeviceReport.{DeviceReport}
-use Rattle.bus_server.specs.declared.device_report.DeviceReport.TheVariants.{Sensor, Packet, Ended}
-use Rattle.bus_server.specs.DeviceReports.{of_ends, of_result, of_sensors, event_of, is_legal_report, sensors_in}
+use Rattle.bus_server.specs.declared.device_report.DeviceReport.TheVariants.{Sensor, Turnout, Packet, Ended}
+use Rattle.bus_server.specs.DeviceReports.{of_ends, of_result, of_sensors, of_turnouts, event_of, is_legal_report, sensors_in}
 use Rattle.bus_server.specs.Failures.{happened_to, happening_by}
 use Rattle.bus_server.specs.Placement.{answered, places}
-use Rattle.bus_server.specs.Programming.{decoder_on, ends_elapsed, programmed, reply_by, reply_or}
-use Rattle.bus_server.specs.Sensors.{due_of, asks_sensors, reports_of_time, full_report, next_turn, power_of, railway_elapsed, railway_requested, reports_due, reports_elapsed}
-use Rattle.bus_server.specs.TransportEvents.{Accepted, NonePending, PeerClosed, Polled, ReadBlocked, Received, Refused, ServerClosed, TransportEvent, WriteBlocked, Written}
-use Rattle.bus_server.specs.Track.{RunsTrack}
-use Rattle.bus_server.proofs.Rounding.{round_serves}
-use Rattle.bus_server.proofs.Tracking.{track_ran, with_due}
+use Rattle.bus_server.specs.Programming.{decoder_on, device_reply, ends_elapsed, programmed, reply_by, reply_or}
+use Rattle.bus_server.specs.Sensors.{due_of, asks_sensors, reports_of_time, full_report, full_reports, movements_elapsed, next_turn, power_of, railway_elapsed, railway_requested, reports_due, reports_elapsed, turnout_report}
+use Rattle.bus_server.proofs.KnownRuns.{rounds_known}
 
 -- what a railway promises of the reports of its sensors
 pub record SensorLaws : Type 0 where
@@ -73,30 +70,27 @@ level-append : (first second : List SensorReport) (sensor : ℕ) (level : Bool) 
 level-append [] second sensor level = refl
 level-append (report ∷ first) second sensor level = level-append first second sensor (if report.sensor == sensor then report.occupied else level)
 
--- the level that a client knows after logged events
-abbrev known_after : (sensor : ℕ) → List LoggedEvent → Bool → Bool
-known_after sensor applied level = level_by (received_in applied) sensor level
-
-known-append : (sensor : ℕ) (first second : List LoggedEvent) (level : Bool) → known_after sensor (first ++ second) level ≡ known_after sensor second (known_after sensor first level)
-known-append sensor first second level =
-    ap (λ (messages : List (List ℕ)). level_by messages sensor level) (flat_map-append (λ (one : LoggedEvent). messages_of one.observed) first second)
-    ∙ ap (λ (reports : List SensorReport). level_after reports sensor level) (flat_map-append (λ (message : List ℕ). option_to_list (report_of message)) (received_in first) (received_in second))
-    ∙ level-append (reports_read (received_in first)) (reports_read (received_in second)) sensor level
-
-claim_parts : (first second : List LoggedEvent) → ClaimNothing (first ++ second) → ClaimNothing first × ClaimNothing second
-claim_parts first second h = and_parts (list_all (λ one. is_no_claim one.observed) first) (list_all (λ one. is_no_claim one.observed) second) (sym (list_all-append (λ (one : LoggedEvent). is_no_claim one.observed) first second) ∙ h)
+by-append : (sensor : ℕ) (first second : List (List ℕ)) (level : Bool) → level_by (first ++ second) sensor level ≡ level_by second sensor (level_by first sensor level)
+by-append sensor first second level =
+    ap (λ (reports : List SensorReport). level_after reports sensor level) (flat_map-append (λ (message : List ℕ). option_to_list (report_of message)) first second)
+    ∙ level-append (reports_read first) (reports_read second) sensor level
 
 -- The reports of sensors among what is due.
 
 sensors-append : (first second : List DeviceReport) → sensors_in (first ++ second) ≡ sensors_in first ++ sensors_in second
 sensors-append [] second = refl
 sensors-append (Sensor report ∷ first) second = ap (λ (all : List SensorReport). report ∷ all) (sensors-append first second)
+sensors-append (Turnout report ∷ first) second = sensors-append first second
 sensors-append (Packet packet change ∷ first) second = sensors-append first second
 sensors-append (Ended ended ∷ first) second = sensors-append first second
 
 sensors-of : (reports : List SensorReport) → sensors_in (of_sensors reports) ≡ reports
 sensors-of [] = refl
 sensors-of (report ∷ reports) = ap (λ (all : List SensorReport). report ∷ all) (sensors-of reports)
+
+none-of_turnouts : (reports : List TurnoutReport) → sensors_in (of_turnouts reports) ≡ []
+none-of_turnouts [] = refl
+none-of_turnouts (report ∷ reports) = none-of_turnouts reports
 
 none-of_result : (ended : Option TaskResult) → sensors_in (of_result ended) ≡ []
 none-of_result None = refl
@@ -112,9 +106,19 @@ sensors-elapsed : (railway : Option RailwayState) (programming : Option BenchSta
     → sensors_in (reports_of_time railway programming micros power nodes) ≡ reports_elapsed railway micros power nodes
 sensors-elapsed railway programming micros power nodes =
     let reports : List SensorReport = reports_elapsed railway micros power nodes in
-    sensors-append (of_sensors reports) (of_ends (decoder_on programming) (ends_elapsed programming micros))
-    ∙ ap₂ (λ (these those : List SensorReport). these ++ those) (sensors-of reports) (none-of_ends (decoder_on programming) (ends_elapsed programming micros))
+    let movements : List TurnoutReport = movements_elapsed railway micros power nodes in
+    let ends : List DeviceReport = of_ends (decoder_on programming) (ends_elapsed programming micros) in
+    let others : sensors_in (of_turnouts movements ++ ends) ≡ [] = sensors-append (of_turnouts movements) ends
+    ∙ ap₂ (λ (these those : List SensorReport). these ++ those) (none-of_turnouts movements) (none-of_ends (decoder_on programming) (ends_elapsed programming micros)) in
+    sensors-append (of_sensors reports) (of_turnouts movements ++ ends)
+    ∙ ap₂ (λ (these those : List SensorReport). these ++ those) (sensors-of reports) others
     ∙ append-nil reports
+
+sensors-full : (railway : Option RailwayState) → sensors_in (full_reports railway) ≡ full_report railway
+sensors-full railway =
+    sensors-append (of_sensors (full_report railway)) (of_turnouts (turnout_report railway))
+    ∙ ap₂ (λ (these those : List SensorReport). these ++ those) (sensors-of (full_report railway)) (none-of_turnouts (turnout_report railway))
+    ∙ append-nil (full_report railway)
 
 -- One event.
 
@@ -144,8 +148,8 @@ elapsed_known laws block sensor micros level programming power nodes old new non
     h.2 h.3 (sym (ap (λ (d : List DeviceReport). level_after (sensors_in d) sensor level) none) ∙ h.4)
 
 asked_level : SensorLaws → (asks level : Bool) (block sensor : ℕ) (railway : RailwayState) → IsTrue (is_railway railway) → IsSensorOf block sensor railway → level ≡ is_sensed railway block
-    → level_after (sensors_in (if asks then of_sensors (full_report (Some railway)) else [])) sensor level ≡ is_sensed railway block
-asked_level laws true level block sensor railway whole is known = ap (λ (d : List SensorReport). level_after d sensor level) (sensors-of (full railway.network.blocks (is_sensed railway))) ∙ laws.full railway block sensor level whole is.0 is.1
+    → level_after (sensors_in (if asks then full_reports (Some railway) else [])) sensor level ≡ is_sensed railway block
+asked_level laws true level block sensor railway whole is known = ap (λ (d : List SensorReport). level_after d sensor level) (sensors-full (Some railway)) ∙ laws.full railway block sensor level whole is.0 is.1
 asked_level laws false level block sensor railway whole is known = known
 
 -- after a client has arranged the devices
@@ -186,8 +190,8 @@ asked_known laws names block sensor level bus client (Some (Send message)) railw
   beside,
   whole,
   is,
-  ap (λ (d : List DeviceReport). level_after (sensors_in d) sensor level) (made ∙ ap (λ (a : Bool). if a then of_sensors (full_report (Some railway)) else []) asks)
-      ∙ ap (λ (d : List SensorReport). level_after d sensor level) (sensors-of (full railway.network.blocks (is_sensed railway))) ∙ laws.full railway block sensor level whole is.0 is.1,
+  ap (λ (d : List DeviceReport). level_after (sensors_in d) sensor level) (made ∙ ap (λ (a : Bool). if a then full_reports (Some railway) else []) asks)
+      ∙ ap (λ (d : List SensorReport). level_after d sensor level) (sensors-full (Some railway)) ∙ laws.full railway block sensor level whole is.0 is.1,
 )
 
 -- The messages of an event are no reports, but for that of a sensor.
@@ -208,6 +212,18 @@ no_reply_by : (programming : Option BenchState) (message : List ℕ) (reply : Op
 no_reply_by None message reply = no_reply reply
 no_reply_by (Some bench) message reply = no_own_reply (reply_of bench.track.programmer (request_in message)) reply
 
+no_device_reply : (state : Option RailwayState) (programming : Option BenchState) (message : List ℕ) (reply : Option Reply)
+    → reports_read (option_to_list (device_reply programming state message (option_map reply_bytes reply))) ≡ []
+no_device_reply None programming message reply = no_reply_by programming message reply
+no_device_reply (Some railway) programming message reply = by_switch (requested_switch message) where
+  by_state : (state : Option TurnoutState) → reports_read (option_to_list (option_or (option_map state_bytes state) (reply_by programming message (option_map reply_bytes reply)))) ≡ []
+  by_state None = no_reply_by programming message reply
+  by_state (Some state) = refl
+
+  by_switch : (switch : Option ℕ) → reports_read (option_to_list (option_or (option_and_then (state_answer railway.network.turnouts) switch) (reply_by programming message (option_map reply_bytes reply)))) ≡ []
+  by_switch None = no_reply_by programming message reply
+  by_switch (Some switch) = by_state (find (is_with_feedback switch) railway.network.turnouts)
+
 none_read : (report : Option SensorReport) → not (is_some report) ≡ true → option_to_list report ≡ []
 none_read None h = refl
 none_read (Some report) h = cc
@@ -216,10 +232,10 @@ none_read (Some report) h = cc
 abbrev TellsNothing : (sensor : ℕ) → (level : Bool) → Outcome → Type 0
 TellsNothing sensor level outcome = level_by (messages_in outcome) sensor level ≡ level
 
-sent_tells : (programming : Option BenchState) (sensor : ℕ) (level : Bool) (client : ℕ) (message : List ℕ) (reply : Option Reply) → not (is_some (report_of message)) ≡ true
-    → TellsNothing sensor level (Sent client message (reply_by programming message (option_map reply_bytes reply)))
-sent_tells programming sensor level client message reply h =
-    ap₂ (λ (a b : List SensorReport). level_after (a ++ b) sensor level) (none_read (report_of message) h) (no_reply_by programming message reply)
+sent_tells : (programming : Option BenchState) (beside : Option RailwayState) (sensor : ℕ) (level : Bool) (client : ℕ) (message : List ℕ) (reply : Option Reply) → not (is_some (report_of message)) ≡ true
+    → TellsNothing sensor level (Sent client message (device_reply programming beside message (option_map reply_bytes reply)))
+sent_tells programming beside sensor level client message reply h =
+    ap₂ (λ (a b : List SensorReport). level_after (a ++ b) sensor level) (none_read (report_of message) h) (no_device_reply beside programming message reply)
 
 request_tells : (programming : Option BenchState) (names : List (List ℕ)) (beside : Option RailwayState) (bus : BusState) (sensor : ℕ) (level : Bool) (client : ℕ) (request : Option Request) (nodes : List Node) (railway : Option RailwayState)
     → is_no_claim (Observed (programmed programming beside (answered names beside (outcome_of_request bus client request))) nodes railway) ≡ true
@@ -230,7 +246,7 @@ request_tells programming names beside bus sensor level client (Some (Turns coun
 request_tells programming names beside bus sensor level client (Some (States things)) nodes railway h = refl
 request_tells programming names beside bus sensor level client (Some (Place placement)) nodes railway h = refl
 request_tells programming names beside bus sensor level client (Some (Device request)) nodes railway h = refl
-request_tells programming names beside bus sensor level client (Some (Send message)) nodes railway h = sent_tells programming sensor level client message (answer_to_message bus.station (for_station bus (Some (Send message)))) h
+request_tells programming names beside bus sensor level client (Some (Send message)) nodes railway h = sent_tells programming beside sensor level client message (answer_to_message bus.station (for_station bus (Some (Send message)))) h
 
 -- time tells nothing
 time_tells : (programming : Option BenchState) (names : List (List ℕ)) (beside : Option RailwayState) (ends : Bool) (packet : Option (List ℕ)) (sensor : ℕ) (level : Bool) → TellsNothing sensor level (programmed programming beside (answered names beside (if ends then TurnBegan packet else Nothing)))
@@ -261,6 +277,7 @@ report_tells : SensorLaws → (report : DeviceReport) (rest : List DeviceReport)
 unfolding message_in
 report_tells laws (Sensor report) rest sensor level legal =
     ap (λ (read : Option SensorReport). level_after (sensors_in rest) sensor (level_after (option_to_list read ++ []) sensor level)) (laws.read report.sensor report.occupied legal)
+report_tells laws (Turnout report) rest sensor level legal = refl
 report_tells laws (Packet packet change) rest sensor level legal = refl
 report_tells laws (Ended ended) rest sensor level legal = refl
 
@@ -274,6 +291,7 @@ reported laws report message rest sensor level legal is =
 -- a packet is no report of a sensor
 no_sensor : (report : DeviceReport) (packet : ServicePacket) (change : Option NamedChange) (rest : List DeviceReport) → event_of report ≡ Programs packet change → sensors_in (report ∷ rest) ≡ sensors_in rest
 no_sensor (Sensor report) packet change rest is = cc
+no_sensor (Turnout report) packet change rest is = cc
 no_sensor (Packet sent changed) packet change rest is = refl
 no_sensor (Ended ended) packet change rest is = cc
 
@@ -330,67 +348,7 @@ becomes_known laws block sensor client byte level railway observed old new besid
 
 -- A run.
 
-module _ (laws : SensorLaws) (block sensor : ℕ) where
-  happened_known : (applied : List LoggedEvent) (level : Bool) (old new : ServerState) → RunsEvents applied old new → ClaimNothing applied → IsKnown block sensor level old → IsKnown block sensor (known_after sensor applied level) new
-  happened_known [] level old new same quiet h = subst (λ (s : ServerState). IsKnown block sensor level s) (sym same) h
-  happened_known (one ∷ more) level old new runs quiet h =
-      let p = and_parts (is_no_claim one.observed) (list_all (λ one. is_no_claim one.observed) more) quiet in
-      let first = event_known laws block sensor level one.event one.observed old runs.0 runs.1 p.0 h in
-      subst (λ (l : Bool). IsKnown block sensor l new) (sym (known-append sensor (one ∷ []) more level))
-      (happened_known more (level_of_event sensor one.observed level) runs.0 new runs.2 p.1 first)
-
-  none_known : (applied : List LoggedEvent) (level : Bool) (new : ServerState) → applied ≡ [] → IsKnown block sensor level new → IsKnown block sensor (known_after sensor applied level) new
-  none_known applied level new none h = subst (λ (all : List LoggedEvent). IsKnown block sensor (known_after sensor all level) new) (sym none) h
-
-  as_before : (applied : List LoggedEvent) (level : Bool) (old new : ServerState) → applied ≡ [] → new ≡ old → IsKnown block sensor level old → IsKnown block sensor (known_after sensor applied level) new
-  as_before applied level old new none same h = none_known applied level new none (subst (λ (s : ServerState). IsKnown block sensor level s) (sym same) h)
-
-  act_known : (log : TransportEvent) (applied : List LoggedEvent) (level : Bool) (old new : ServerState) → Applies log applied old new → ClaimNothing applied → IsKnown block sensor level old
-      → IsKnown block sensor (known_after sensor applied level) new
-  act_known (Accepted client) applied level old new does quiet h = happened_known applied level (with_backlog old) new does.1.2 quiet h
-  act_known (Received client byte) applied level old new does quiet h = happened_known applied level (with_backlog old) new does.1.2 quiet h
-  act_known (PeerClosed client) applied level old new does quiet h = happened_known applied level old new does.2 quiet h
-  act_known (ServerClosed client) applied level old new does quiet h = happened_known applied level old new does.1.2 quiet h
-  act_known (Written client bytes) applied level old new does quiet h =
-      none_known applied level new does.0 (subst (λ (s : ServerState). IsKnown block sensor level s) (sym does.3) h)
-  act_known Refused applied level old new does quiet h = as_before applied level (with_backlog old) new does.0 does.2 h
-  act_known (Polled longest) applied level old new does quiet h = absurd does
-  act_known (ReadBlocked client) applied level old new does quiet h = as_before applied level old new does.0 does.1 h
-  act_known (WriteBlocked client) applied level old new does quiet h = as_before applied level old new does.0 does.1 h
-  act_known NonePending applied level old new does quiet h = as_before applied level old new does.0 does.1 h
-
-  abbrev applied_in : List Handled → List LoggedEvent
-  applied_in handled = flat_map (λ one_handled. one_handled.applied) handled
-
-  acts_known : (handled : List Handled) (level : Bool) (old new : ServerState) → AppliesAll handled old new → ClaimNothing (applied_in handled) → IsKnown block sensor level old → IsKnown block sensor (known_after sensor (applied_in handled) level) new
-  acts_known [] level old new same quiet h = subst (λ (s : ServerState). IsKnown block sensor level s) (sym same) h
-  acts_known (one_handled ∷ handled) level old new does quiet h =
-      let p = claim_parts one_handled.applied (applied_in handled) quiet in
-      let first = act_known one_handled.log one_handled.applied level old does.0 does.1 p.0 h in
-      subst (λ (l : Bool). IsKnown block sensor l new) (sym (known-append sensor one_handled.applied (applied_in handled) level))
-      (acts_known handled (known_after sensor one_handled.applied level) does.0 new does.2 p.1 first)
-
-  time_known : (pace : Pace) (readings : List ℕ) (elapsing : List LoggedEvent) (level : Bool) (old new : ServerState) → RunsTrack pace readings elapsing old new → ClaimNothing elapsing → IsKnown block sensor level old
-      → IsKnown block sensor (known_after sensor elapsing level) new
-  time_known pace readings elapsing level old new runs quiet h =
-      let ran = track_ran pace readings elapsing old new runs in
-      let after : IsKnown block sensor (known_after sensor elapsing level) (with_due new.turns_due new.time_due new.has_backlog ran.0) = happened_known elapsing level old ran.0 ran.1 quiet h in
-      subst (λ (s : ServerState). IsKnown block sensor (known_after sensor elapsing level) s) (sym ran.2) after
-
-  rounds_known : (most : ℕ) (rounds : List Round) (level : Bool) (old new : ServerState) → RunsRounds most rounds old new → ClaimNothing (logged_in rounds) → IsKnown block sensor level old
-      → IsKnown block sensor (known_after sensor (logged_in rounds) level) new
-  rounds_known most [] level old new same quiet h = subst (λ (s : ServerState). IsKnown block sensor level s) (sym same) h
-  rounds_known most (round ∷ rounds) level old new runs quiet h =
-      let went = runs.2 in
-      let handled = applied_in round.handled in
-      let both = claim_parts (handled ++ round.elapsing) (logged_in rounds) quiet in
-      let one = claim_parts handled round.elapsing both.0 in
-      let served = acts_known round.handled level (round_start old) went.1 (round_serves round.handled (round_start old) went.1 went.2) one.0 h in
-      let timed = time_known went.1.pace round.readings round.elapsing (known_after sensor handled level) went.1 runs.1 went.3 one.1 served in
-      let rest = rounds_known most rounds (known_after sensor round.elapsing (known_after sensor handled level)) runs.1 new runs.3 both.1 timed in
-      subst (λ (l : Bool). IsKnown block sensor l new)
-      (sym (known-append sensor (handled ++ round.elapsing) (logged_in rounds) level ∙ ap (λ (l : Bool). known_after sensor (logged_in rounds) l) (known-append sensor handled round.elapsing level))) rest
-
 pub stays_known : SensorLaws → (block sensor most : ℕ) (level : Bool) (rounds : List Round) (old new : ServerState) → RunsRounds most rounds old new → ClaimNothing (logged_in rounds) → IsKnown block sensor level old
-    → IsKnown block sensor (known_after sensor (logged_in rounds) level) new
-stays_known laws block sensor most level rounds old new runs quiet h = rounds_known laws block sensor most rounds level old new runs quiet h
+    → IsKnown block sensor (level_by (received_in (logged_in rounds)) sensor level) new
+stays_known laws block sensor most level rounds old new runs quiet h =
+    rounds_known (IsKnown block sensor) (λ messages l. level_by messages sensor l) is_no_claim (same_known block sensor) (λ l. refl) (by-append sensor) (event_known laws block sensor) most rounds level old new runs quiet h

@@ -8,6 +8,8 @@ pub mod Hearing
 pub mod Keeping
 pub mod KeepingUp
 pub mod Knowing
+pub mod KnowingTurnouts
+pub mod KnownRuns
 pub mod Missed
 pub mod Missing
 pub mod Naming

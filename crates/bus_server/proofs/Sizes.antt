@@ -1,7 +1,8 @@
 -- How long the text of a request is, and of what is due at once.
-use Rattle.std.proofs.Common.{◌≡◌, ℕ, ◌+◌, ◌*◌, ◌≤◌, Bool, true, false, if◌then◌else◌, List, [], ◌∷◌, ◌++◌, length, Option, Some, None, refl, ap, subst, sym, arith}
+use Rattle.std.proofs.Common.{◌≡◌, ◌∙◌, ℕ, suc, ◌+◌, ◌*◌, ◌≤◌, Bool, true, false, if◌then◌else◌, List, [], ◌∷◌, ◌++◌, length, Option, Some, None, refl, ap, subst, sym, arith}
 use Rattle.std.specs.Prelude.{◌==◌, Err, IfSome, Ok, Result}
-use Rattle.std.specs.Option.{option_map}
+use Rattle.std.specs.List.{find}
+use Rattle.std.specs.Option.{option_and_then, option_map, option_or}
 use Rattle.std.proofs.lemmas.Bool.{leb-true}
 use Rattle.std.proofs.lemmas.List.{length-append}
 use Rattle.ln_ops.specs.Reply.{reply_bytes}
@@ -14,6 +15,11 @@ use Rattle.refresh_ring.specs.declared.pick.Power.{Power}
 use Rattle.railway.specs.declared.block.Block.{Block}
 use Rattle.railway.specs.Course.{Happening, after, reports_of}
 use Rattle.railway.specs.Course.Happening.{Elapses as TimeElapses}
+use Rattle.railway.specs.declared.joint.TurnoutState.{TurnoutState}
+use Rattle.railway.specs.declared.turnout_report.TurnoutReport.{TurnoutReport}
+use Rattle.railway.specs.Feedback as turnout
+use Rattle.railway.specs.Feedback.{full_turnouts, is_with_feedback, movement_of, movements, turnout_report_bytes, requested_switch, side_report, state_bytes, state_answer}
+use Rattle.railway.specs.Network.{turnouts_of}
 use Rattle.railway.specs.Railway.{RailwayState, elapsed, is_sensed}
 use Rattle.railway.specs.Reports.{change_of, changes, changes_from, full_from, level_of, onto}
 use Rattle.text.specs.Hex.{hex_words}
@@ -40,6 +46,7 @@ use Rattle.bus.specs.declared.event.Event.TheVariants.{Connects, Disconnects, El
 use Rattle.bus.specs.Bus.{BusState, client_of, granted, is_event, outcome_of_request, reply_to, request_at}
 use Rattle.bus_server.specs.Observations.{Observation}
 use Rattle.bus_server.specs.ServerState.{RunsEvent, ServerState}
+use Rattle.bus_server.specs.KeepUp.{AreFewParts}
 use Rattle.programmer.specs.declared.reply.TaskReply.{TaskReply}
 use Rattle.programmer.specs.declared.reply.TaskReply.TheVariants.{Accepted as TaskAccepted, Busy, NotImplemented, Data}
 use Rattle.programmer.specs.declared.task_result.TaskResult.{TaskResult}
@@ -53,12 +60,12 @@ use Rattle.programming_track.specs.Bench.{BenchState}
 use Rattle.programming_track.specs.Time.{ends_within}
 use Rattle.bus.specs.Below.{TurnsAreBounded}
 use Rattle.bus_server.specs.declared.device_report.DeviceReport.{DeviceReport}
-use Rattle.bus_server.specs.declared.device_report.DeviceReport.TheVariants.{Sensor, Packet, Ended}
-use Rattle.bus_server.specs.DeviceReports.{of_ends, of_result, of_sensors, event_of}
+use Rattle.bus_server.specs.declared.device_report.DeviceReport.TheVariants.{Sensor, Turnout, Packet, Ended}
+use Rattle.bus_server.specs.DeviceReports.{of_ends, of_result, of_sensors, of_turnouts, event_of}
 use Rattle.bus_server.specs.Failures.{happened_to, happening_by}
 use Rattle.bus_server.specs.Placement.{answered, place_answer, places}
-use Rattle.bus_server.specs.Programming.{decoder_on, device_answer, ends_elapsed, programmed, reply_by, reply_or}
-use Rattle.bus_server.specs.Sensors.{due_of, reports_of_time, full_report, is_report, next_turn, railway_after, railway_elapsed, railway_requested, reports_after, reports_due, reports_elapsed, running_in, power_of}
+use Rattle.bus_server.specs.Programming.{decoder_on, device_answer, device_reply, ends_elapsed, programmed, reply_by, reply_or}
+use Rattle.bus_server.specs.Sensors.{due_of, reports_of_time, full_report, full_reports, is_report, movements_elapsed, next_turn, railway_after, railway_elapsed, railway_requested, reports_after, reports_due, reports_elapsed, running_in, turnout_report, power_of}
 
 -- The text of a request is at most 789 bytes.
 
@@ -93,6 +100,20 @@ own_most (Some (Data ended)) reply =
 reply_by_most : (programming : Option BenchState) (message : List ℕ) (reply : Option Reply) → length (reply_text (reply_by programming message (option_map reply_bytes reply))) ≤ 390
 reply_by_most None message reply = reply_most reply
 reply_by_most (Some bench) message reply = own_most (reply_of bench.track.programmer (request_in message)) reply
+
+device_reply_most : (railway : Option RailwayState) (programming : Option BenchState) (message : List ℕ) (reply : Option Reply)
+    → length (reply_text (device_reply programming railway message (option_map reply_bytes reply))) ≤ 390
+device_reply_most None programming message reply = reply_by_most programming message reply
+device_reply_most (Some railway) programming message reply = by_switch (requested_switch message) where
+  by_state : (state : Option TurnoutState) → length (reply_text (option_or (option_map state_bytes state) (reply_by programming message (option_map reply_bytes reply)))) ≤ 390
+  by_state None = reply_by_most programming message reply
+  by_state (Some state) =
+      let size : length (state_bytes state) ≡ 4 = refl in
+      omega (arith, size, length-words (state_bytes state), length-append (hex_words (state_bytes state)) line_end)
+
+  by_switch : (switch : Option ℕ) → length (reply_text (option_or (option_and_then (state_answer railway.network.turnouts) switch) (reply_by programming message (option_map reply_bytes reply)))) ≤ 390
+  by_switch None = reply_by_most programming message reply
+  by_switch (Some switch) = by_state (find (is_with_feedback switch) railway.network.turnouts)
 
 ok_most : (sender : Bool) → length (if sender then sent_ok_text else []) ≤ 9
 ok_most true = omega arith
@@ -161,16 +182,17 @@ requested_text state client i (Some (States things)) h = omega arith
 requested_text state client i (Some (Place placement)) h = place_most (client == i) (place_answer state.names state.railway placement)
 requested_text state client i (Some (Device request)) h = device_most (client == i) (device_answer state.programming state.railway request)
 requested_text state client i (Some (Send message)) h =
-    three_most (receive_text message) (if client == i then sent_ok_text else []) (reply_text (reply_by state.programming message (reply_to state.bus (Some (Send message))))) (h message refl) (ok_most (client == i)) (reply_by_most state.programming message _)
+    three_most (receive_text message) (if client == i then sent_ok_text else []) (reply_text (device_reply state.programming state.railway message (reply_to state.bus (Some (Send message))))) (h message refl) (ok_most (client == i)) (device_reply_most state.railway state.programming message _)
 
 pub request_most : AreShortLines → (state : ServerState) (client i : ℕ) (kept : Option (List ℕ)) (byte : ℕ) → length (text_for i (answered_request state client (request_at kept byte))) ≤ 789
 request_most lines state client i kept byte = requested_text state client i (request_at kept byte) (short_line lines kept byte)
 
--- A report of a sensor is a line of 21 bytes, a result one of 51, and a packet none: the bytes that what
--- is due adds to the text of a client.
+-- A report of a sensor or a turnout is a line of 21 bytes, a result one of 51, and a packet none: the
+-- bytes that what is due adds to the text of a client.
 
 abbrev pub text_size : DeviceReport → ℕ
 text_size (Sensor report) = 21
+text_size (Turnout report) = 21
 text_size (Packet packet change) = 0
 text_size (Ended ended) = 51
 
@@ -182,6 +204,11 @@ report_size : (sensor : ℕ) (occupied : Bool) → length (receive_text (report_
 report_size sensor occupied =
     let size : length (report_bytes sensor occupied) ≡ 4 = refl in
     omega (arith, size, length-words (report_bytes sensor occupied), length-append (hex_words (report_bytes sensor occupied)) line_end)
+
+turnout_size : (report : TurnoutReport) → length (receive_text (turnout_report_bytes report)) ≤ 21
+turnout_size report =
+    let size : length (turnout_report_bytes report) ≡ 4 = refl in
+    omega (arith, size, length-words (turnout_report_bytes report), length-append (hex_words (turnout_report_bytes report)) line_end)
 
 result_size : (ended : TaskResult) → length (receive_text (result_bytes ended)) ≤ 51
 result_size ended =
@@ -195,6 +222,7 @@ message_in other = []
 pub message_size : (report : DeviceReport) (message : List ℕ) → event_of report ≡ Reports message → length (receive_text message) ≤ text_size report
 unfolding message_in
 message_size (Sensor report) message is = subst (λ (m : List ℕ). length (receive_text m) ≤ 21) (ap message_in is) (report_size report.sensor report.occupied)
+message_size (Turnout report) message is = subst (λ (m : List ℕ). length (receive_text m) ≤ 21) (ap message_in is) (turnout_size report)
 message_size (Packet packet change) message is = cc
 message_size (Ended ended) message is = subst (λ (m : List ℕ). length (receive_text m) ≤ 51) (ap message_in is) (result_size ended)
 
@@ -205,6 +233,10 @@ owed-append (report ∷ first) second = omega (arith, owed-append first second)
 owed_sensors : (reports : List SensorReport) → owed (of_sensors reports) ≡ 21 * length reports
 owed_sensors [] = refl
 owed_sensors (report ∷ reports) = omega (arith, owed_sensors reports)
+
+owed_turnouts : (reports : List TurnoutReport) → owed (of_turnouts reports) ≡ 21 * length reports
+owed_turnouts [] = refl
+owed_turnouts (report ∷ reports) = omega (arith, owed_turnouts reports)
 
 owed_result : (ended : Option TaskResult) → owed (of_result ended) ≤ 51
 owed_result None = omega arith
@@ -218,56 +250,90 @@ onto_most : (report : Option SensorReport) (reports : List SensorReport) → len
 onto_most None reports = omega arith
 onto_most (Some report) reports = omega arith
 
-changes_from_most : (level : Bool) (was is : ℕ → Bool) (i : ℕ) (blocks : List Block) → length (changes_from level was is i blocks) ≤ length blocks
-changes_from_most level was is i [] = omega arith
-changes_from_most level was is i (block ∷ blocks) =
-    omega (arith, changes_from_most level was is (i + 1) blocks, onto_most (change_of level block.sensor (was i) (is i)) (changes_from level was is (i + 1) blocks))
+-- a block changes at most once
+both_onto : (sensor : Option ℕ) (was is : Bool) (rises falls : List SensorReport)
+    → length (onto (change_of true sensor was is) rises) + length (onto (change_of false sensor was is) falls) ≤ length rises + length falls + 1
+both_onto None was is rises falls = omega arith
+both_onto (Some sensor) true true rises falls = omega arith
+both_onto (Some sensor) true false rises falls = omega arith
+both_onto (Some sensor) false true rises falls = omega arith
+both_onto (Some sensor) false false rises falls = omega arith
+
+each_once : (was is : ℕ → Bool) (i : ℕ) (blocks : List Block) → length (changes_from true was is i blocks) + length (changes_from false was is i blocks) ≤ length blocks
+each_once was is i [] = omega arith
+each_once was is i (block ∷ blocks) =
+    omega (arith, each_once was is (i + 1) blocks, both_onto block.sensor (was i) (is i) (changes_from true was is (i + 1) blocks) (changes_from false was is (i + 1) blocks))
 
 full_from_most : (is : ℕ → Bool) (i : ℕ) (blocks : List Block) → length (full_from is i blocks) ≤ length blocks
 full_from_most is i [] = omega arith
 full_from_most is i (block ∷ blocks) =
     omega (arith, full_from_most is (i + 1) blocks, onto_most (level_of block.sensor (is i)) (full_from is (i + 1) blocks))
 
-changes_most : (blocks : List Block) (was is : ℕ → Bool) → length blocks ≤ 64 → length (changes blocks was is) ≤ 128
-changes_most blocks was is few =
-    omega (arith, few, length-append (changes_from true was is 0 blocks) (changes_from false was is 0 blocks), changes_from_most true was is 0 blocks, changes_from_most false was is 0 blocks)
+changes_most : (blocks : List Block) (was is : ℕ → Bool) → length blocks ≤ 64 → length (changes blocks was is) ≤ 64
+changes_most blocks was is few = omega (arith, few, length-append (changes_from true was is 0 blocks) (changes_from false was is 0 blocks), each_once was is 0 blocks)
 
--- a railway has at most 64 blocks
-abbrev pub HasFewBlocks : Option RailwayState → Type 0
-HasFewBlocks railway = IfSome railway (λ railway. length railway.network.blocks ≤ 64)
+-- and a turnout comes to lie at most once
+turnout_onto : (report : Option TurnoutReport) (reports : List TurnoutReport) → length (turnout.onto report reports) ≤ length reports + 1
+turnout_onto None reports = omega arith
+turnout_onto (Some report) reports = omega arith
 
-elapsed_most : (railway : Option RailwayState) (micros : ℕ) (power : Power) (nodes : List Node) → HasFewBlocks railway → length (reports_elapsed railway micros power nodes) ≤ 128
+movements_most : (was is : List TurnoutState) → length (movements was is) ≤ length was
+movements_most [] is = omega arith
+movements_most (before ∷ was) [] = omega arith
+movements_most (before ∷ was) (after ∷ is) = omega (arith, movements_most was is, turnout_onto (movement_of before after) (movements was is))
+
+full_turnouts_most : (states : List TurnoutState) → length (full_turnouts states) ≤ length states
+full_turnouts_most [] = omega arith
+full_turnouts_most (state ∷ states) = omega (arith, full_turnouts_most states, turnout_onto (side_report state) (full_turnouts states))
+
+-- a railway has at most 64 blocks and turnouts
+abbrev pub HasFewParts : Option RailwayState → Type 0
+HasFewParts railway = IfSome railway AreFewParts
+
+elapsed_most : (railway : Option RailwayState) (micros : ℕ) (power : Power) (nodes : List Node) → HasFewParts railway → length (reports_elapsed railway micros power nodes) ≤ 64
 elapsed_most None micros power nodes few = omega arith
-elapsed_most (Some railway) micros power nodes few = changes_most railway.network.blocks (is_sensed railway) (is_sensed (elapsed railway micros power nodes)) few
+elapsed_most (Some railway) micros power nodes few = changes_most railway.network.blocks (is_sensed railway) (is_sensed (elapsed railway micros power nodes)) few.blocks
 
-full_most : (railway : Option RailwayState) → HasFewBlocks railway → length (full_report railway) ≤ 128
+moved_most : (railway : Option RailwayState) (micros : ℕ) (power : Power) (nodes : List Node) → HasFewParts railway → length (movements_elapsed railway micros power nodes) ≤ 64
+moved_most None micros power nodes few = omega arith
+moved_most (Some railway) micros power nodes few =
+    let most = few.turnouts in omega (arith, most, movements_most railway.network.turnouts (elapsed railway micros power nodes).network.turnouts)
+
+full_most : (railway : Option RailwayState) → HasFewParts railway → length (full_report railway) ≤ 64
 full_most None few = omega arith
-full_most (Some railway) few = omega (arith, few, full_from_most (is_sensed railway) 0 railway.network.blocks)
+full_most (Some railway) few = let most = few.blocks in omega (arith, most, full_from_most (is_sensed railway) 0 railway.network.blocks)
 
-sensors_most : (reports : List SensorReport) → length reports ≤ 128 → owed (of_sensors reports) ≤ 2790
+turnouts_full_most : (railway : Option RailwayState) → HasFewParts railway → length (turnout_report railway) ≤ 64
+turnouts_full_most None few = omega arith
+turnouts_full_most (Some railway) few = let most = few.turnouts in omega (arith, most, full_turnouts_most railway.network.turnouts)
+
+sensors_most : (reports : List SensorReport) → length reports ≤ 64 → owed (of_sensors reports) ≤ 2790
 sensors_most reports few = omega (arith, few, owed_sensors reports)
 
-asked_most : (asks : Bool) (railway : Option RailwayState) → HasFewBlocks railway → owed (if asks then of_sensors (full_report railway) else []) ≤ 2790
-asked_most true railway few = sensors_most (full_report railway) (full_most railway few)
+asked_most : (asks : Bool) (railway : Option RailwayState) → HasFewParts railway → owed (if asks then full_reports railway else []) ≤ 2790
+asked_most true railway few =
+    let sensors : List SensorReport = full_report railway in
+    let turnouts : List TurnoutReport = turnout_report railway in
+    omega (arith, owed-append (of_sensors sensors) (of_turnouts turnouts), owed_sensors sensors, owed_turnouts turnouts, full_most railway few, turnouts_full_most railway few)
 asked_most false railway few = omega arith
 
-happened_most : (happening : Happening) (railway : RailwayState) → length railway.network.blocks ≤ 64 → owed (of_sensors (reports_of railway happening)) ≤ 2790
+happened_most : (happening : Happening) (railway : RailwayState) → AreFewParts railway → owed (of_sensors (reports_of railway happening)) ≤ 2790
 happened_most happening railway few =
     let new : RailwayState = after railway happening in
-    sensors_most (changes railway.network.blocks (is_sensed railway) (is_sensed new)) (changes_most railway.network.blocks (is_sensed railway) (is_sensed new) few)
+    sensors_most (changes railway.network.blocks (is_sensed railway) (is_sensed new)) (changes_most railway.network.blocks (is_sensed railway) (is_sensed new) few.blocks)
 
-placed_most : (names : List (List ℕ)) (client : ℕ) (placement : Result Placement PlaceError) (railway : Option RailwayState) → HasFewBlocks railway → owed (reports_due names (PlaceRequested client placement) railway []) ≤ 2790
+placed_most : (names : List (List ℕ)) (client : ℕ) (placement : Result Placement PlaceError) (railway : Option RailwayState) → HasFewParts railway → owed (reports_due names (PlaceRequested client placement) railway []) ≤ 2790
 placed_most names client (Err error) None few = omega arith
 placed_most names client (Err error) (Some railway) few = omega arith
 placed_most names client (Ok placement) None few = omega arith
 placed_most names client (Ok placement) (Some railway) few = happened_most (places names railway placement) railway few
 
-device_due_most : (happening : Option Happening) (railway : Option RailwayState) → HasFewBlocks railway → owed (due_of happening railway []) ≤ 2790
+device_due_most : (happening : Option Happening) (railway : Option RailwayState) → HasFewParts railway → owed (due_of happening railway []) ≤ 2790
 device_due_most None railway few = omega arith
 device_due_most (Some happening) None few = omega arith
 device_due_most (Some happening) (Some railway) few = happened_most happening railway few
 
-requested_most : (names : List (List ℕ)) (bus : BusState) (client : ℕ) (request : Option Request) (railway : Option RailwayState) → HasFewBlocks railway → owed (reports_due names (outcome_of_request bus client request) railway []) ≤ 2790
+requested_most : (names : List (List ℕ)) (bus : BusState) (client : ℕ) (request : Option Request) (railway : Option RailwayState) → HasFewParts railway → owed (reports_due names (outcome_of_request bus client request) railway []) ≤ 2790
 requested_most names bus client None railway few = omega arith
 requested_most names bus client (Some (Invalid reason)) railway few = omega arith
 requested_most names bus client (Some (Send message)) railway few = asked_most (begins_interrogation message) railway few
@@ -276,11 +342,12 @@ requested_most names bus client (Some (States things)) railway few = omega arith
 requested_most names bus client (Some (Place placement)) railway few = placed_most names client placement railway few
 requested_most names bus client (Some (Device request)) railway few = device_due_most (happening_by request) railway few
 
--- what a railway promises, that its blocks stay whatever happens; a station, how long its turns are; a
+-- what a railway promises, that its blocks and turnouts stay whatever happens; a station, how long its turns are; a
 -- programming track, that few packets end in a time; and the text of clients, how long a line is
 pub record Limits : Type 0 where
   pub lines : AreShortLines
   pub blocks : (railway : RailwayState) (happening : Happening) → (after railway happening).network.blocks ≡ railway.network.blocks
+  pub turnouts : (railway : RailwayState) (happening : Happening) → turnouts_of (after railway happening).network.turnouts ≡ turnouts_of railway.network.turnouts
   pub turns : TurnsAreBounded
   pub ends : (micros : ℕ) (track : ProgrammingTrack) → 5820 * length (ends_within micros track) ≤ micros + 5820
 
@@ -288,18 +355,21 @@ ends_most : Limits → (programming : Option BenchState) (micros : ℕ) → micr
 ends_most laws None micros short = omega arith
 ends_most laws (Some bench) micros short = omega (arith, laws.ends micros bench.track, short)
 
-time_most : Limits → (railway : Option RailwayState) (programming : Option BenchState) (micros : ℕ) (power : Power) (nodes : List Node) → HasFewBlocks railway → micros ≤ 10740
+time_most : Limits → (railway : Option RailwayState) (programming : Option BenchState) (micros : ℕ) (power : Power) (nodes : List Node) → HasFewParts railway → micros ≤ 10740
     → owed (reports_of_time railway programming micros power nodes) ≤ 2790
 time_most laws railway programming micros power nodes few short =
     let reports : List SensorReport = reports_elapsed railway micros power nodes in
+    let turnouts : List TurnoutReport = movements_elapsed railway micros power nodes in
     let ends : List PacketEnd = ends_elapsed programming micros in
     let decoder : Option ArrayString = decoder_on programming in
-    omega (arith, owed-append (of_sensors reports) (of_ends decoder ends), owed_sensors reports, owed_ends decoder ends, elapsed_most railway micros power nodes few, ends_most laws programming micros short)
+    let of_rest : owed (of_turnouts turnouts ++ of_ends decoder ends) ≤ 1446 =
+    omega (arith, owed-append (of_turnouts turnouts) (of_ends decoder ends), owed_turnouts turnouts, owed_ends decoder ends, moved_most railway micros power nodes few, ends_most laws programming micros short) in
+    omega (arith, of_rest, owed-append (of_sensors reports) (of_turnouts turnouts ++ of_ends decoder ends), owed_sensors reports, elapsed_most railway micros power nodes few)
 
 next_most : Limits → (bus : BusState) → next_turn bus ≤ 10740
 next_most laws bus = let longest = laws.turns.longest bus.station in omega (arith, longest)
 
-made_most : Limits → (names : List (List ℕ)) (bus : BusState) (nodes : List Node) (event : Event) (railway : Option RailwayState) (programming : Option BenchState) → is_event event ≡ true → HasFewBlocks railway
+made_most : Limits → (names : List (List ℕ)) (bus : BusState) (nodes : List Node) (event : Event) (railway : Option RailwayState) (programming : Option BenchState) → is_event event ≡ true → HasFewParts railway
     → owed (reports_after names bus nodes event railway programming) ≤ 2790
 made_most laws names bus nodes (Connects client) railway programming legal few = omega arith
 made_most laws names bus nodes (Receives client byte) railway programming legal few = requested_most names bus client (request_at (client_of bus client) byte) railway few
@@ -310,19 +380,30 @@ made_most laws names bus nodes (Elapses micros missed) railway programming legal
     time_most laws railway programming micros (power_of bus) nodes few (let short = leb-true micros 5796 legal in omega (arith, short))
 made_most laws names bus nodes (Turn missed) railway programming legal few = time_most laws railway programming (next_turn bus) (power_of bus) nodes few (next_most laws bus)
 
-few_after : Limits → (railway : RailwayState) (happening : Happening) → length railway.network.blocks ≤ 64 → length (after railway happening).network.blocks ≤ 64
-few_after same railway happening few = subst (λ (blocks : List Block). length blocks ≤ 64) (sym (same.blocks railway happening)) few
+as_many : (one two : List TurnoutState) → turnouts_of one ≡ turnouts_of two → length one ≡ length two
+as_many one two h = sym (count one) ∙ ap length h ∙ count two where
+  count : (states : List TurnoutState) → length (turnouts_of states) ≡ length states
+  count [] = refl
+  count (state ∷ states) = ap suc (count states)
 
-few_elapsed : Limits → (railway : Option RailwayState) (micros : ℕ) (power : Power) (nodes : List Node) → HasFewBlocks railway → HasFewBlocks (railway_elapsed railway micros power nodes)
+few_after : Limits → (railway : RailwayState) (happening : Happening) → AreFewParts railway → AreFewParts (after railway happening)
+few_after same railway happening few =
+    let many : length (after railway happening).network.turnouts ≡ length railway.network.turnouts = as_many (after railway happening).network.turnouts railway.network.turnouts (same.turnouts railway happening) in
+    let most = few.turnouts in record {
+      blocks = subst (λ (blocks : List Block). length blocks ≤ 64) (sym (same.blocks railway happening)) few.blocks;
+      turnouts = omega (arith, many, most);
+    }
+
+few_elapsed : Limits → (railway : Option RailwayState) (micros : ℕ) (power : Power) (nodes : List Node) → HasFewParts railway → HasFewParts (railway_elapsed railway micros power nodes)
 few_elapsed same None micros power nodes few = few
 few_elapsed same (Some railway) micros power nodes few = few_after same railway (TimeElapses micros power nodes) few
 
-few_happened : Limits → (happening : Option Happening) (railway : Option RailwayState) → HasFewBlocks railway → HasFewBlocks (happened_to happening railway)
+few_happened : Limits → (happening : Option Happening) (railway : Option RailwayState) → HasFewParts railway → HasFewParts (happened_to happening railway)
 few_happened same None railway few = few
 few_happened same (Some happening) None few = few
 few_happened same (Some happening) (Some railway) few = few_after same railway happening few
 
-few_placed : Limits → (names : List (List ℕ)) (bus : BusState) (client : ℕ) (request : Option Request) (railway : Option RailwayState) → HasFewBlocks railway → HasFewBlocks (railway_requested names (outcome_of_request bus client request) railway)
+few_placed : Limits → (names : List (List ℕ)) (bus : BusState) (client : ℕ) (request : Option Request) (railway : Option RailwayState) → HasFewParts railway → HasFewParts (railway_requested names (outcome_of_request bus client request) railway)
 few_placed same names bus client None railway few = few
 few_placed same names bus client (Some (Invalid reason)) railway few = few
 few_placed same names bus client (Some (Send message)) railway few = few
@@ -334,7 +415,7 @@ few_placed same names bus client (Some (Place (Err error))) (Some railway) few =
 few_placed same names bus client (Some (Place (Ok placement))) None few = few
 few_placed same names bus client (Some (Place (Ok placement))) (Some railway) few = few_after same railway (places names railway placement) few
 
-still_few : Limits → (names : List (List ℕ)) (bus : BusState) (nodes : List Node) (event : Event) (railway : Option RailwayState) → HasFewBlocks railway → HasFewBlocks (railway_after names bus nodes event railway)
+still_few : Limits → (names : List (List ℕ)) (bus : BusState) (nodes : List Node) (event : Event) (railway : Option RailwayState) → HasFewParts railway → HasFewParts (railway_after names bus nodes event railway)
 still_few same names bus nodes (Connects client) railway few = few
 still_few same names bus nodes (Receives client byte) railway few = few_placed same names bus client (request_at (client_of bus client) byte) railway few
 still_few same names bus nodes (Disconnects client) railway few = few
@@ -363,12 +444,12 @@ made_due (Programs packet change) observed old new none runs = cc
 made_due (Elapses micros missed) observed old new none runs = runs.unreported.1
 made_due (Turn missed) observed old new none runs = runs.unreported.1
 
--- what is due is at most 2,790 bytes, and the railway has at most 64 blocks
+-- what is due is at most 2,790 bytes, and the railway has at most 64 blocks and turnouts
 abbrev pub HasFew : ServerState → Type 0
-HasFew state = (owed state.unreported ≤ 2790) × HasFewBlocks state.railway
+HasFew state = (owed state.unreported ≤ 2790) × HasFewParts state.railway
 
-pub event_few : Limits → (event : Event) (observed : Observation) (old new : ServerState) → is_report event ≡ false → RunsEvent event observed old new → HasFewBlocks old.railway → HasFew new
+pub event_few : Limits → (event : Event) (observed : Observation) (old new : ServerState) → is_report event ≡ false → RunsEvent event observed old new → HasFewParts old.railway → HasFew new
 event_few same event observed old new none runs few = (
   subst (λ (items : List DeviceReport). owed items ≤ 2790) (sym (made_due event observed old new none runs)) (made_most same old.names old.bus (running_in event old.nodes new.nodes) event old.railway old.programming runs.legal few),
-  subst HasFewBlocks (sym runs.railway) (still_few same old.names old.bus (running_in event old.nodes new.nodes) event old.railway few),
+  subst HasFewParts (sym runs.railway) (still_few same old.names old.bus (running_in event old.nodes new.nodes) event old.railway few),
 )

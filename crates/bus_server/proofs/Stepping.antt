@@ -6,7 +6,7 @@ use Rattle.station_core.specs.Station.{packet_of_turn}
 use Rattle.railway.specs.Railway.{RailwayState}
 use Rattle.programming_track.specs.Bench.{BenchState}
 use Rattle.bus_server.specs.declared.device_report.DeviceReport.{DeviceReport}
-use Rattle.bus_server.specs.declared.device_report.DeviceReport.TheVariants.{Sensor, Packet, Ended}
+use Rattle.bus_server.specs.declared.device_report.DeviceReport.TheVariants.{Sensor, Turnout, Packet, Ended}
 use Rattle.bus_server.specs.DeviceReports.{event_of, is_legal_report}
 use Rattle.bus_server.specs.Programming.{programmed, programming_elapsed, programming_requested}
 use Rattle.bus.specs.declared.outcome.Outcome.{Outcome}
@@ -151,6 +151,7 @@ turn_runs micros missed outcome losses old drawn begun new lasts none draws is_d
 
 pub is_device_report : (report : DeviceReport) → is_report (event_of report) ≡ true
 is_device_report (Sensor report) = refl
+is_device_report (Turnout report) = refl
 is_device_report (Packet packet change) = refl
 is_device_report (Ended ended) = refl
 
@@ -164,6 +165,10 @@ report_runs (Sensor report) rest observed old ready new is legal is_run h =
     let on_bus : RunsOnBus (event_of (Sensor report)) observed (without_first rest old) new = subst (λ (s : ServerState). RunsOnBus (event_of (Sensor report)) observed s new) is_run h in
     runs (event_of (Sensor report)) observed old.losses old.railway old.programming rest old new on_bus tt refl refl refl refl
     (Sensor report, is ∙ ap (λ (unreported : List DeviceReport). Sensor report ∷ unreported) (sym on_bus.unreported), legal, refl)
+report_runs (Turnout report) rest observed old ready new is legal is_run h =
+    let on_bus : RunsOnBus (event_of (Turnout report)) observed (without_first rest old) new = subst (λ (s : ServerState). RunsOnBus (event_of (Turnout report)) observed s new) is_run h in
+    runs (event_of (Turnout report)) observed old.losses old.railway old.programming rest old new on_bus tt refl refl refl refl
+    (Turnout report, is ∙ ap (λ (unreported : List DeviceReport). Turnout report ∷ unreported) (sym on_bus.unreported), legal, refl)
 report_runs (Packet packet change) rest observed old ready new is legal is_run h =
     let on_bus : RunsOnBus (event_of (Packet packet change)) observed (without_first rest old) new = subst (λ (s : ServerState). RunsOnBus (event_of (Packet packet change)) observed s new) is_run h in
     runs (event_of (Packet packet change)) observed old.losses old.railway old.programming rest old new on_bus tt refl refl refl refl

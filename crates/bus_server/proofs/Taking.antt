@@ -4,9 +4,10 @@ use Rattle.std.specs.Prelude.{slice_get}
 use Rattle.ln_ops.specs.declared.sensor.SensorReport.{SensorReport}
 use Rattle.arrayvec.specs.ArrayString.{ArrayString}
 use Rattle.programming_track.specs.declared.packet_end.PacketEnd.{PacketEnd}
+use Rattle.railway.specs.declared.turnout_report.TurnoutReport.{TurnoutReport}
 use Rattle.bus_server.specs.declared.device_report.DeviceReport.{DeviceReport}
-use Rattle.bus_server.specs.declared.device_report.DeviceReport.TheVariants.{Sensor, Packet}
-use Rattle.bus_server.specs.DeviceReports.{of_ends, of_result, of_sensors}
+use Rattle.bus_server.specs.declared.device_report.DeviceReport.TheVariants.{Sensor, Turnout, Packet}
+use Rattle.bus_server.specs.DeviceReports.{of_ends, of_result, of_sensors, of_turnouts}
 use Rattle.bus_server.specs.Programming.{named}
 
 same_some : {A : Type 0} (a b : A) → Some a ≡ Some b → a ≡ b
@@ -24,6 +25,11 @@ pub sensor_first : (reports rest : List SensorReport) (report : SensorReport) (b
     → of_sensors reports ++ behind ≡ Sensor report ∷ (of_sensors rest ++ behind)
 sensor_first reports rest report behind first after =
     ap (λ (all : List SensorReport). of_sensors all ++ behind) (first_of reports report first ∙ ap (λ (all : List SensorReport). report ∷ all) (sym after))
+
+pub turnout_first : (reports rest : List TurnoutReport) (report : TurnoutReport) (behind : List DeviceReport) → Some report ≡ slice_get reports 0 → rest ≡ drop 1 reports
+    → of_turnouts reports ++ behind ≡ Turnout report ∷ (of_turnouts rest ++ behind)
+turnout_first reports rest report behind first after =
+    ap (λ (all : List TurnoutReport). of_turnouts all ++ behind) (first_of reports report first ∙ ap (λ (all : List TurnoutReport). report ∷ all) (sym after))
 
 pub packet_first : (decoder : Option ArrayString) (ends rest : List PacketEnd) (one : PacketEnd) → Some one ≡ slice_get ends 0 → rest ≡ drop 1 ends
     → of_ends decoder ends ≡ Packet one.packet (named decoder one.change) ∷ (of_result one.result ++ of_ends decoder rest)

@@ -7,6 +7,7 @@ pub mod Generator
 pub mod Hub
 pub mod KeepUp
 pub mod Known
+pub mod KnownTurnouts
 pub mod Losses
 pub mod MainTrack
 pub mod NamedNodes

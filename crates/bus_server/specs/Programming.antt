@@ -1,5 +1,6 @@
 -- The programming track beside a bus, and the decoders that clients put on it.
 use Rattle.std.specs.Prelude.{ℕ, true, false, if◌then◌else◌, List, [], Option, Some, None, Result, Ok, Err, option_map}
+use Rattle.std.specs.Option.{option_or}
 use Rattle.arrayvec.specs.ArrayString.{ArrayString}
 use Rattle.arrayvec.specs.ArrayVec.{ArrayVec}
 use Rattle.cv_memory.specs.declared.cv_change.CvChange.{CvChange}
@@ -21,6 +22,7 @@ use Rattle.programming_track.specs.declared.packet_end.NamedChange.{NamedChange}
 use Rattle.programming_track.specs.declared.packet_end.PacketEnd.{PacketEnd}
 use Rattle.programming_track.specs.Bench.{BenchState, bench_elapsed, bench_requested, dismounted, has_decoder, mounted_as, name_on, with_failing}
 use Rattle.programming_track.specs.Time.{ends_within}
+use Rattle.railway.specs.Feedback.{feedback_reply}
 use Rattle.railway.specs.Railway.{RailwayState}
 use Rattle.bus.specs.declared.outcome.Outcome.{Outcome}
 use Rattle.bus.specs.declared.outcome.Outcome.TheVariants.{DeviceAnswered, DeviceRequested, Sent}
@@ -110,10 +112,21 @@ reply_by None message station = station
 reply_by (Some bench) message station =
     reply_or (reply_of bench.track.programmer (request_in message)) station
 
+-- the reply of a turnout with feedback, if a message requests its state
+abbrev pub railway_reply : Option RailwayState → (message : List ℕ) → Option (List ℕ)
+railway_reply None message = None
+railway_reply (Some railway) message = feedback_reply railway.network.turnouts message
+
+-- the reply of a device beside the station, else that of the station
+abbrev pub device_reply : Option BenchState → Option RailwayState → (message : List ℕ)
+    → (station : Option (List ℕ)) → Option (List ℕ)
+device_reply programming railway message station =
+    option_or (railway_reply railway message) (reply_by programming message station)
+
 -- an outcome with that reply, or with the answer where a client arranges the devices
 abbrev pub programmed : Option BenchState → Option RailwayState → Outcome → Outcome
 programmed programming railway (Sent client message reply) =
-    Sent client message (reply_by programming message reply)
+    Sent client message (device_reply programming railway message reply)
 programmed programming railway (DeviceRequested client request) =
     DeviceAnswered client (device_answer programming railway request)
 programmed programming railway other = other

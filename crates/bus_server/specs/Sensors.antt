@@ -8,13 +8,15 @@ use Rattle.programming_track.specs.Bench.{BenchState}
 use Rattle.bus.specs.declared.outcome.Outcome.{Outcome}
 use Rattle.bus.specs.declared.outcome.Outcome.TheVariants.{DeviceRequested, PlaceRequested, Sent}
 use Rattle.railway.specs.Course.{Happening, after, reports_of}
+use Rattle.railway.specs.declared.turnout_report.TurnoutReport.{TurnoutReport}
+use Rattle.railway.specs.Feedback.{full_turnouts, movements_in}
 use Rattle.railway.specs.Railway.{RailwayState, elapsed, is_sensed, reports_in}
 use Rattle.railway.specs.Reports.{full}
 use Rattle.bus.specs.declared.event.Event.{Event}
 use Rattle.bus.specs.declared.event.Event.TheVariants.{Connects, Receives, Disconnects, Reports, Programs, Elapses, Turn}
 use Rattle.bus.specs.Bus.{BusState, after_event, outcome_of}
 use Rattle.bus_server.specs.declared.device_report.DeviceReport.{DeviceReport}
-use Rattle.bus_server.specs.DeviceReports.{IsNext, of_ends, of_sensors}
+use Rattle.bus_server.specs.DeviceReports.{IsNext, of_ends, of_sensors, of_turnouts}
 use Rattle.bus_server.specs.Failures.{happened_to, happening_by}
 use Rattle.bus_server.specs.Placement.{places}
 use Rattle.bus_server.specs.Programming.{decoder_on, ends_elapsed, programming_elapsed, programming_requested}
@@ -35,10 +37,25 @@ abbrev pub reports_elapsed : Option RailwayState → (micros : ℕ) → Power �
 reports_elapsed None micros power nodes = []
 reports_elapsed (Some railway) micros power nodes = reports_in railway micros power nodes
 
+-- what its turnouts report of that
+abbrev pub movements_elapsed : Option RailwayState → (micros : ℕ) → Power → List Node
+    → List TurnoutReport
+movements_elapsed None micros power nodes = []
+movements_elapsed (Some railway) micros power nodes = movements_in railway micros power nodes
+
 -- a report of each sensor
 abbrev pub full_report : Option RailwayState → List SensorReport
 full_report None = []
 full_report (Some railway) = full railway.network.blocks (is_sensed railway)
+
+-- a report of each turnout with feedback that lies
+abbrev pub turnout_report : Option RailwayState → List TurnoutReport
+turnout_report None = []
+turnout_report (Some railway) = full_turnouts railway.network.turnouts
+
+-- what an interrogation makes due: of the sensors first
+abbrev pub full_reports : Option RailwayState → List DeviceReport
+full_reports railway = of_sensors (full_report railway) ++ of_turnouts (turnout_report railway)
 
 -- a message asks all sensors to report
 abbrev pub asks_sensors : Outcome → Bool
@@ -66,7 +83,7 @@ due_of (Some happening) (Some railway) unreported = of_sensors (reports_of railw
 abbrev pub reports_due : (names : List (List ℕ)) → Outcome → Option RailwayState
     → List DeviceReport → List DeviceReport
 reports_due names (Sent client message reply) railway unreported =
-    if begins_interrogation message then of_sensors (full_report railway) else unreported
+    if begins_interrogation message then full_reports railway else unreported
 reports_due names (PlaceRequested client (Ok placement)) (Some railway) unreported =
     of_sensors (reports_of railway (places names railway placement))
 reports_due names (DeviceRequested client request) railway unreported =
@@ -103,12 +120,14 @@ programming_after bus (Receives client byte) programming =
     programming_requested (outcome_of bus (Receives client byte)) programming
 programming_after bus other programming = programming
 
--- what is reported of a time: the changes of the sensors, and then of the programming track
+-- what is reported of a time: the changes of the sensors, then of the turnouts, and then of the
+-- programming track
 abbrev pub reports_of_time : Option RailwayState → Option BenchState → (micros : ℕ) → Power
     → List Node → List DeviceReport
 reports_of_time railway programming micros power nodes =
     of_sensors (reports_elapsed railway micros power nodes)
-    ++ of_ends (decoder_on programming) (ends_elapsed programming micros)
+    ++ (of_turnouts (movements_elapsed railway micros power nodes)
+    ++ of_ends (decoder_on programming) (ends_elapsed programming micros))
 
 -- What an event makes due: what is reported of its time, and what its outcome makes due.
 abbrev pub reports_after : (names : List (List ℕ)) → BusState → List Node → Event

@@ -6,6 +6,7 @@ use bus::Event;
 use ln_ops::SensorReport;
 use programmer::TaskResult;
 use programming_track::NamedChange;
+use railway::TurnoutReport;
 use service_mode::ServicePacket;
 
 /// What a device beside the station reports.
@@ -13,6 +14,8 @@ use service_mode::ServicePacket;
 pub(crate) enum DeviceReport {
     /// The block of a sensor became occupied or free.
     Sensor(SensorReport),
+    /// A turnout came to lie.
+    Turnout(TurnoutReport),
     /// A packet has been sent on the programming track, and may have changed the decoder's variables.
     Packet {
         packet: ServicePacket,
@@ -33,6 +36,9 @@ impl DeviceReport {
     {
         match self {
             DeviceReport::Sensor(report) => Event::Reports {
+                message: report.message(),
+            },
+            DeviceReport::Turnout(report) => Event::Reports {
                 message: report.message(),
             },
             DeviceReport::Packet { packet, change } => Event::Programs { packet, change },

@@ -9,13 +9,15 @@ use crate::device_report::DeviceReport;
 use cv_memory::CvChange;
 use programmer::TaskResult;
 use programming_track::{DecoderName, NamedChange, PacketEnds};
-use railway::Reports;
+use railway::{Reports, TimeReports, TurnoutReports};
 
 /// What devices beside the station are still to report, in order.
 #[derive(Drop)]
 pub(crate) struct DeviceReports {
     /// What sensors report.
     pub(crate) reports: Reports,
+    /// What turnouts report after them.
+    pub(crate) turnouts: TurnoutReports,
     /// The result of a task whose last packet has been reported.
     pub(crate) ended: Option<TaskResult>,
     /// The packets of the programming track after it.
@@ -28,20 +30,23 @@ pub(crate) struct DeviceReports {
 }
 
 impl DeviceReports {
-    ghost use Rattle.bus_server.specs.DeviceReports.{queue_of, of_ends, of_sensors, is_legal_report};
+    ghost use Rattle.bus_server.specs.DeviceReports.{queue_of, of_ends, of_sensors, of_turnouts, is_legal_report};
 
-    /// What sensors report, and then the programming track, on which this decoder stands, or none.
+    /// What sensors report, then turnouts, and then the programming track, on which this decoder stands,
+    /// or none.
     pub(crate) fn new(
-        reports: Reports,
+        reports: TimeReports,
         ends: PacketEnds,
         decoder: Option<DecoderName>,
     ) -> DeviceReports
-        requires sensors { IsTrue (list_all is_report reports.items) }
+        requires sensors { IsTrue (list_all is_report reports.sensors.items) }
         requires packets { IsTrue (list_all is_legal_end ends.items) }
-        ensures { queue_of result ≡ of_sensors reports.items ++ of_ends decoder ends.items }
+        ensures { queue_of result ≡ of_sensors reports.sensors.items
+            ++ (of_turnouts reports.turnouts.items ++ of_ends decoder ends.items) }
     {
         DeviceReports {
-            reports,
+            reports: reports.sensors,
+            turnouts: reports.turnouts,
             ended: None,
             ends,
             decoder,
@@ -60,6 +65,18 @@ impl DeviceReports {
         requires sensors { IsTrue (list_all is_report reports.items) }
         ensures { queue_of result ≡ of_sensors reports.items }
     {
+        DeviceReports::of_railway(TimeReports {
+            sensors: reports,
+            turnouts: TurnoutReports::new(),
+        })
+    }
+
+    /// What sensors report, and then turnouts.
+    pub(crate) fn of_railway(reports: TimeReports) -> DeviceReports
+        requires sensors { IsTrue (list_all is_report reports.sensors.items) }
+        ensures { queue_of result
+            ≡ of_sensors reports.sensors.items ++ of_turnouts reports.turnouts.items }
+    {
         DeviceReports::new(reports, PacketEnds::new(), None)
     }
 
@@ -73,12 +90,16 @@ impl DeviceReports {
         if let Some(report) = self.reports.pop_at(0) {
             return Some(DeviceReport::Sensor(report));
         }
+        if let Some(report) = self.turnouts.pop_at(0) {
+            return Some(DeviceReport::Turnout(report));
+        }
         self.next_of_programming()
     }
 
     /// Takes what the programming track reports next.
     fn next_of_programming(&mut self) -> Option<DeviceReport>
-        requires { self.old.reports.items ≡ [] }
+        requires sensors { self.old.reports.items ≡ [] }
+        requires turnouts { self.old.turnouts.items ≡ [] }
         ensures first { MatchOption result
             ((queue_of self.old ≡ []) × (queue_of self.new ≡ []))
             (λ report. queue_of self.old ≡ report ∷ queue_of self.new) }

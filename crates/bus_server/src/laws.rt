@@ -2,6 +2,7 @@
 ghost use Rattle.bus_server.specs.Fronts.{FrontsAreWritten};
 ghost use Rattle.bus_server.specs.KeepUp.{StaysConnected};
 ghost use Rattle.bus_server.specs.Known.{BecomesKnown, StaysKnown};
+ghost use Rattle.bus_server.specs.KnownTurnouts.{TurnoutBecomesKnown, TurnoutStaysKnown};
 ghost use Rattle.bus_server.specs.MainTrack.{MainTrackIsApart};
 ghost use Rattle.bus_server.specs.Repeats.{OrderDecides, RunsRepeat, TurnsFollowMessages};
 ghost use Rattle.bus_server.specs.Running.{NoneMisses, RoundsAreARun, TimeIsRead};
@@ -60,6 +61,19 @@ pub fn clients_know()
     ln_ops::laws::reports_are_read();
     railway::laws::observers_know();
     railway::laws::railways_are_kept();
+}
+
+/// What a client knows of a turnout with feedback by the messages that it receives is the side at which it
+/// lies, whenever it lies: after an interrogation, whatever the client knew, and from then on, if no
+/// client sends a report of its own and no other turnout with feedback has its switch.
+pub fn clients_know_turnouts()
+    ensures becomes { TurnoutBecomesKnown }
+    ensures stays { TurnoutStaysKnown }
+{
+    railway::laws::observers_know_turnouts();
+    railway::laws::railways_are_kept();
+    railway::laws::turnout_reports_are_read_back();
+    railway::laws::turnouts_report_movements();
 }
 
 /// Where turns follow messages, all those of one pass before a client sends a byte or connects.

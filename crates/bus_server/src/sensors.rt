@@ -9,8 +9,8 @@ ghost use Rattle.bus.specs.declared.outcome.Outcome.TheVariants.{PlaceRequested}
 ghost use Rattle.bus_server.specs.NamedNodes.{names_of};
 ghost use Rattle.bus_server.specs.Failures.{happened_to, happening_by};
 ghost use Rattle.bus_server.specs.Placement.{answered, place_answer};
-ghost use Rattle.bus_server.specs.Programming.{arranged, decoder_on, device_answer, ends_elapsed, programmed, programming_elapsed, programming_requested, reply_by};
-ghost use Rattle.bus_server.specs.Sensors.{due_of, reports_of_time, full_report, railway_elapsed, railway_requested, reports_due, reports_elapsed};
+ghost use Rattle.bus_server.specs.Programming.{arranged, decoder_on, device_answer, device_reply, ends_elapsed, programmed, programming_elapsed, programming_requested, reply_by, railway_reply};
+ghost use Rattle.bus_server.specs.Sensors.{due_of, full_report, full_reports, movements_elapsed, railway_elapsed, railway_requested, reports_due, reports_elapsed, reports_of_time, turnout_report};
 
 use crate::arranging::mount;
 use crate::device_reports::DeviceReports;
@@ -22,7 +22,7 @@ use ln_frame::Msg;
 use ln_ops::begins_interrogation;
 use loconet_tcp::{DeviceAnswer, DeviceRequest, PlaceError, Placement};
 use programming_track::{DecoderName, PacketEnds, ProgrammingBench};
-use railway::{Railway, Reports};
+use railway::{Railway, Reports, TimeReports, TurnoutReports};
 
 /// The devices beside the station, trains with their sensors and a programming track, if there are
 /// any, and what they are still to report.
@@ -34,7 +34,7 @@ pub(crate) struct Sensors {
 }
 
 impl Sensors {
-    ghost use Rattle.bus_server.specs.DeviceReports.{queue_of, of_sensors};
+    ghost use Rattle.bus_server.specs.DeviceReports.{queue_of};
 
     /// The devices beside a station. Nothing is due.
     pub(crate) fn new(railway: Option<Railway>, programming: Option<ProgrammingBench>) -> Sensors
@@ -129,22 +129,37 @@ impl Sensors {
         }
     }
 
-    /// Makes a report of each sensor due, if a message asks for it.
+    /// Makes a report of each sensor and turnout due, if a message asks for it.
     fn report_if_asked(&mut self, message: &Msg)
         ensures railway { self.new.railway ≡ self.old.railway }
         ensures programming { self.new.programming ≡ self.old.programming }
         ensures unreported { queue_of self.new.unreported
-            ≡ (if begins_interrogation message.now then of_sensors (full_report self.old.railway)
+            ≡ (if begins_interrogation message.now then full_reports self.old.railway
             else queue_of self.old.unreported) }
     {
         if begins_interrogation(message) {
-            self.unreported = DeviceReports::of_sensors(full_report(&self.railway));
+            self.unreported = DeviceReports::of_railway(full_reports(&self.railway));
         }
+    }
+
+    /// Lets the programmer do what a message asks for. Returns the reply of a turnout with feedback, if
+    /// the message requests its state, or that of the programmer, if it is for slot 124, or else that of
+    /// the station.
+    fn reply(&mut self, message: &Msg, station: Option<Msg>) -> Option<Msg>
+        ensures railway { self.new.railway ≡ self.old.railway }
+        ensures programming { self.new.programming
+            ≡ option_map (λ bench. bench_requested bench message.now) self.old.programming }
+        ensures unreported { queue_of self.new.unreported ≡ queue_of self.old.unreported }
+        ensures reply { result
+            ≡ device_reply self.old.programming self.old.railway message.now station }
+    {
+        let other = self.reply_of_programmer(message, station);
+        railway_reply(&self.railway, message).or(other)
     }
 
     /// Lets the programmer do what a message asks for. Returns its reply, or that of the station if
     /// the message is not for slot 124.
-    fn reply(&mut self, message: &Msg, station: Option<Msg>) -> Option<Msg>
+    fn reply_of_programmer(&mut self, message: &Msg, station: Option<Msg>) -> Option<Msg>
         ensures railway { self.new.railway ≡ self.old.railway }
         ensures programming { self.new.programming
             ≡ option_map (λ bench. bench_requested bench message.now) self.old.programming }
@@ -190,17 +205,40 @@ impl Sensors {
     }
 }
 
-/// Lets the trains run, if there are any. Returns what their sensors report.
-fn run_trains(railway: &mut Option<Railway>, micros: u32, world: &World) -> Reports
+/// Returns the reply of a turnout with feedback, if a message requests its state.
+fn railway_reply(railway: &Option<Railway>, message: &Msg) -> Option<Msg>
+    ensures { result ≡ railway_reply railway.now message.now }
+{
+    match railway {
+        Some(railway) => railway.answer_state(message),
+        None => None,
+    }
+}
+
+/// Lets the trains run, if there are any. Returns what sensors and turnouts report.
+fn run_trains(railway: &mut Option<Railway>, micros: u32, world: &World) -> TimeReports
     ensures railway { railway.new
         ≡ railway_elapsed railway.old micros world.now.station.powered.power world.now.nodes }
-    ensures reports { result.items
+    ensures reports { result.sensors.items
         ≡ reports_elapsed railway.old micros world.now.station.powered.power world.now.nodes }
-    ensures valid { list_all is_report result.items ≡ true }
+    ensures turnouts { result.turnouts.items
+        ≡ movements_elapsed railway.old micros world.now.station.powered.power world.now.nodes }
+    ensures valid { list_all is_report result.sensors.items ≡ true }
 {
     match railway {
         Some(railway) => railway.elapse(micros, world),
-        None => Reports::new(),
+        None => no_reports(),
+    }
+}
+
+/// Nothing is reported.
+fn no_reports() -> TimeReports
+    ensures sensors { result.sensors.items ≡ [] }
+    ensures turnouts { result.turnouts.items ≡ [] }
+{
+    TimeReports {
+        sensors: Reports::new(),
+        turnouts: TurnoutReports::new(),
     }
 }
 
@@ -227,13 +265,17 @@ fn decoder_on(programming: &Option<ProgrammingBench>) -> Option<DecoderName>
     }
 }
 
-/// Returns a report of each sensor.
-fn full_report(railway: &Option<Railway>) -> Reports
-    ensures reports { result.items ≡ full_report railway.now }
-    ensures valid { list_all is_report result.items ≡ true }
+/// Returns a report of each sensor, and of each turnout with feedback that lies.
+fn full_reports(railway: &Option<Railway>) -> TimeReports
+    ensures sensors { result.sensors.items ≡ full_report railway.now }
+    ensures turnouts { result.turnouts.items ≡ turnout_report railway.now }
+    ensures valid { list_all is_report result.sensors.items ≡ true }
 {
     match railway {
-        Some(railway) => railway.report_all(),
-        None => Reports::new(),
+        Some(railway) => TimeReports {
+            sensors: railway.report_all(),
+            turnouts: railway.report_turnouts(),
+        },
+        None => no_reports(),
     }
 }

@@ -7,6 +7,7 @@ returns c =
     let laws : Limits = record {
       lines = λ kept byte message sends. c.received_lines_are_short.ensures message (c.requested_message_is_whole.ensures kept byte message sends);
       blocks = c.railways_are_kept.ensures.blocks;
+      turnouts = c.railways_are_kept.ensures.turnouts;
       turns = c.turns_are_bounded.ensures;
       ends = c.ends_are_few.ensures;
     } in
