@@ -52,6 +52,22 @@ def losses():
                     within(f"ways in which decoders lose, {pace}", 48, len(patterns), DECODERS)
 
 
+def own_losses():
+    """--lose NAME=N: one decoder misses N of 100 packets, and the others those of --lose N, as they do without it"""
+    with roster_of(DECODERS) as file:
+        words = (file, "--turns", "16")
+        names = {f"loco-{i}" for i in range(DECODERS)}
+        found = received(drive_with_losses(*words, "--lose", "loco-7=99"))
+        within("packets that loco-7 received", 0, sum("loco-7" in one for one in found), 3)
+        same("who received the others", [one | {"loco-7"} for one in found], [names] * len(SPEEDS))
+        found = received(drive_with_losses(*words, "--lose", "loco-7=0", "--lose", "99", "--lose", "loco-63=0"))
+        same("who received all", [{"loco-7", "loco-63"} <= one for one in found], [True] * len(SPEEDS))
+        within("packets that others received", 0, sum(len(one) - 2 for one in found), 22)
+        # Each decoder is drawn, also where it is to miss nothing, so that one misses what it would among others.
+        one, all_others = (received(drive_with_losses(*words, *lose)) for lose in (("--lose", "loco-7=50"), ("--lose", "50")))
+        same("what loco-7 received", ["loco-7" in each for each in one], ["loco-7" in each for each in all_others])
+
+
 def seeds():
     """the same --seed loses the same, and another loses others; without it the seed is 0"""
     with roster_of(DECODERS) as file:

@@ -62,4 +62,4 @@ pub missed_same : (nodes m n : ℕ) (old a b : Losses) → IsDraw nodes m old a 
 missed_same nodes m n old a b h k = bits_same m n (λ i. h.drawn i ∙ sym (k.drawn i))
 
 pub drawn_same : (nodes m n : ℕ) (old a b : Losses) → IsDraw nodes m old a → IsDraw nodes n old b → a ≡ b
-drawn_same nodes m n old a b h k = ap₂ (λ lose generator. record old { lose = lose; generator = generator }) (h.share ∙ sym k.share) (h.generator ∙ sym k.generator)
+drawn_same nodes m n old a b h k = ap₂ (λ shares generator. record old { shares = shares; generator = generator }) (h.shares ∙ sym k.shares) (h.generator ∙ sym k.generator)

@@ -15,6 +15,7 @@ use Rattle.bus_server.specs.Observations.{Observation, Skipped}
 use Rattle.bus.specs.Cycle.{RunsInTime}
 use Rattle.bus_server.specs.declared.hub.Hub.{Hub}
 use Rattle.bus_server.specs.declared.losses.Losses.{Losses}
+use Rattle.bus_server.specs.Generator.{loses_none}
 use Rattle.bus_server.specs.declared.pace.Pace.TheVariants.{RealTime}
 use Rattle.bus_server.specs.Pace.{longest_step}
 use Rattle.bus_server.specs.Snapshots.{state_of}
@@ -117,9 +118,9 @@ abbrev pub is_missed_by_none : LayoutEvent → Bool
 is_missed_by_none (layout.Turn missed) = missed == 0
 is_missed_by_none other = true
 
--- Where no share is to be lost, no decoder misses a turn.
+-- Where no decoder is to miss anything, none misses a turn.
 abbrev pub NoneMisses : Type 0
-NoneMisses = (events : List Event) (old new : ServerState) → IsEventRun events old new → old.losses.lose ≡ 0
+NoneMisses = (events : List Event) (old new : ServerState) → IsEventRun events old new → loses_none old.losses.shares.items ≡ true
     → list_all is_missed_by_none (layout_events old.bus events) ≡ true
 
 -- the sum of the clock's readings, each a second at most

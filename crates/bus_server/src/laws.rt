@@ -88,7 +88,7 @@ pub fn runs_repeat()
     ensures in_order { OrderDecides }
 {}
 
-/// If no share of the packets is to be lost, no decoder misses a turn.
+/// If no decoder is to miss anything, none misses a turn.
 pub fn none_misses()
     ensures { NoneMisses }
 {}

@@ -32,7 +32,7 @@ mod track_due;
 mod transport;
 mod under_way;
 
-pub use crate::losses::Losses;
+pub use crate::losses::{Losses, Shares};
 pub use after_round::AfterRound;
 pub use bus::MAX_CLIENTS;
 pub use named_node::{Name, NamedNode, NamedNodes};

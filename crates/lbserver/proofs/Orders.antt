@@ -16,9 +16,10 @@ use Rattle.bus_server.specs.Losses.{IsSeeded}
 use Rattle.bus_server.specs.Pace.{is_pace}
 use Rattle.bus_server.specs.Running.{IsRun}
 use Rattle.bus_server.specs.TransportEvents.{TransportEvent}
+use Rattle.lbserver.specs.Sharing.{shares_of}
 use Rattle.lbserver.specs.Execution.{ServesBy, ServesLogged, clients_of, entries_in, kept, moment, pace_of}
 
-pub same_order : (a b : ServerOrder) (entries : List Entry) (railway : Option RailwayState) (programming : Option BenchState) → pace_of a.turns a.rate ≡ pace_of b.turns b.rate → a.lose ≡ b.lose → a.seed ≡ b.seed → a.clients ≡ b.clients → (events : List TransportEvent) (readings : List ℕ) → ServesBy a entries railway programming events readings → ServesBy b entries railway programming events readings
+pub same_order : (a b : ServerOrder) (entries : List Entry) (railway : Option RailwayState) (programming : Option BenchState) → pace_of a.turns a.rate ≡ pace_of b.turns b.rate → a.lose.items ≡ b.lose.items → a.seed ≡ b.seed → a.clients ≡ b.clients → (events : List TransportEvent) (readings : List ℕ) → ServesBy a entries railway programming events readings → ServesBy b entries railway programming events readings
 same_order a b entries railway programming pace lose seed clients events readings served =
     let start = served.0 in
     let losses = served.2.0 in (
@@ -26,7 +27,7 @@ same_order a b entries railway programming pace lose seed clients events reading
       served.1,
       (
         losses,
-        subst (λ (n : ℕ). IsSeeded n b.seed losses) lose (subst (λ (n : ℕ). IsSeeded a.lose n losses) seed served.2.1),
+        subst (λ shares. IsSeeded (shares_of shares (names_of entries)) b.seed losses) lose (subst (λ (n : ℕ). IsSeeded (shares_of a.lose.items (names_of entries)) n losses) seed served.2.1),
         subst (λ (p : Pace). start ≡ initial_state (specs_of entries) (names_of entries) railway programming p losses) pace served.2.2,
       ),
       subst (λ (c : Option ℕ). IsRun (clients_of c) (moment (kept [] []) start) (moment (kept events readings) served.1)) clients served.3,

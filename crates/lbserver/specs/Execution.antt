@@ -2,6 +2,7 @@
 -- text that they ask for.
 use Rattle.std.specs.Prelude.{ℕ, ◌≡◌, ⊤, ◌⊎◌, ◌-◌, ◌==◌, ◌||◌, ◌^◌, Bool, if◌then◌else◌, IsTrue, is_some, not, true, false, List, [], Option, Some, None, Result, Ok, Err}
 use Rattle.std.specs.Io.KnownBytes.{Appends}
+use Rattle.std.specs.List.{list_any}
 use Rattle.server_orders.specs.declared.words.ServerOrder.{ServerOrder}
 use Rattle.command_line.specs.Fault as order
 use Rattle.command_line.specs.declared.fault.OrderFault.{OrderFault}
@@ -25,10 +26,13 @@ use Rattle.bus_server.specs.AfterRound.{Shown}
 use Rattle.bus_server.specs.Observations.{Observation}
 use Rattle.bus_server.specs.Running.{IsRun, RunSnapshot}
 use Rattle.bus_server.specs.TransportEvents.{TransportEvent}
+use Rattle.server_orders.specs.declared.share.Share.{Share}
+use Rattle.server_orders.specs.Shares.{decoder_of}
 use Rattle.lbserver.specs.Programmers.{IsProgrammingOf}
+use Rattle.lbserver.specs.Sharing.{first_unknown, shares_of}
 use Rattle.lbserver.specs.declared.device_logs.DeviceLogs.{DeviceLogs}
 use Rattle.lbserver.specs.declared.fault.ServerFault.{ServerFault}
-use Rattle.lbserver.specs.declared.fault.ServerFault.TheVariants.{Listen, Order, Output, Plan, Roster, Run, Unopened}
+use Rattle.lbserver.specs.declared.fault.ServerFault.TheVariants.{Listen, NoDecoder, Order, Output, Plan, Roster, Run, Unopened}
 
 -- how many clients have to disconnect before the server ends; without a number, as many as can be
 -- counted
@@ -59,10 +63,10 @@ abbrev pub HasPace : ServerOrder → Type 0
 HasPace order = IsTrue (is_pace (pace_of order.turns order.rate))
 
 -- a new server for an order: the decoders of its roster, a railway and a programming track, its turns
--- and its rate, and losses of its share, drawn from its seed
+-- and its rate, and losses of its shares, drawn from its seed
 abbrev pub IsNewServer : ServerOrder → List Entry → Option RailwayState → Option BenchState → ServerState → Type 0
 IsNewServer order entries railway programming start =
-    (losses : Losses) × IsSeeded order.lose order.seed losses × (start ≡ initial_state (specs_of entries) (names_of entries) railway programming (pace_of order.turns order.rate) losses)
+    (losses : Losses) × IsSeeded (shares_of order.lose.items (names_of entries)) order.seed losses × (start ≡ initial_state (specs_of entries) (names_of entries) railway programming (pace_of order.turns order.rate) losses)
 
 -- A server that is ready to serve an order: new, with the decoders of its roster, and nothing to report.
 pub record IsReady (order : ServerOrder) (entries : List Entry) (hub : Hub) : Type 0 where
@@ -105,10 +109,10 @@ abbrev pub ServesProgrammer : ServerOrder → List Entry → Option RailwayState
 ServesProgrammer order entries railway logs =
     (programming : Option BenchState) × IsProgrammingOf order.programmer programming × ServesOrder order entries railway programming logs
 
--- and with the railway of its plan
+-- and with the railway of its plan, where its roster has the decoders that it names
 abbrev pub ServesPlan : ServerOrder → List Entry → DeviceLogs → Type 0
 ServesPlan order entries logs =
-    (railway : Option RailwayState) × IsRailwayOf order.plan entries railway × ServesProgrammer order entries railway logs
+    (first_unknown (names_of entries) order.lose.items ≡ None) × (railway : Option RailwayState) × IsRailwayOf order.plan entries railway × ServesProgrammer order entries railway logs
 
 -- The arguments are those of an order, and it is served, with its roster.
 abbrev pub ServesWords : List (List ℕ) → DeviceLogs → Type 0
@@ -129,6 +133,7 @@ status_of (Order fault) = order.status_of fault
 status_of (Unopened file why) = 2
 status_of (Roster file fault details) = 3
 status_of (Plan file fault) = 3
+status_of (NoDecoder name) = 3
 status_of (Listen address why) = 4
 status_of Output = 4
 status_of (Run fault) = run.status_of fault
@@ -137,13 +142,17 @@ status_of (Run fault) = run.status_of fault
 abbrev pub AreNoOrder : List (List ℕ) → Type 0
 AreNoOrder words = (fault : OrderFault) × IsServerFault words fault × (order.status_of fault ≡ 1)
 
--- a fault of a file: it cannot be read, or its text has one
+-- a fault of a file: it cannot be read, its text has one, or it lacks a decoder that is named
 abbrev pub is_of_file : ServerFault → Bool
 is_of_file fault = status_of fault == 2 || status_of fault == 3
 
--- the order names a file, or asks for the page, which is one
+-- a share of packets is that of one decoder
+abbrev pub names_decoder : List Share → Bool
+names_decoder shares = list_any (λ share. is_some (decoder_of share)) shares
+
+-- the order names a file, or asks for the page, which is one, or names a decoder that its roster has to have
 abbrev pub names_file : ServerOrder → Bool
-names_file order = is_some order.roster || is_some order.plan || is_some order.programmer || is_some order.page
+names_file order = is_some order.roster || is_some order.plan || is_some order.programmer || is_some order.page || names_decoder order.lose.items
 
 abbrev pub NameFile : List (List ℕ) → Type 0
 NameFile words = (order : ServerOrder) × IsServerOrderOf words order × (names_file order ≡ true)

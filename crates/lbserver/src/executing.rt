@@ -18,6 +18,7 @@ use crate::programmer_file::read_programming;
 use crate::reach::reachable;
 use crate::roster_file::read_roster;
 use crate::roster_line::NAME;
+use crate::shares::{check_names, shares_of};
 use crate::standard_output::{STANDARD_OUTPUT, StandardOutput};
 use bus_log::{LogQueue, Printer, Verbosity, decoders, print_listening, write_queued};
 use bus_server::{AfterRound, Losses, Pace, Server, Stop, TimeSource, Transport};
@@ -64,7 +65,8 @@ pub(crate) fn execute<O: Write, E: Write>(
     ensures lost { result ≡ 7 → (output.new.failed ≡ true)
         × RunsWords (map (λ word. word.now) words.entry.now) (O.contents output.old.writer)
         (O.contents output.new.writer) logs.new }
-    // Status 1 only where the arguments are those of no order, 2 and 3 only where they name a file.
+    // Status 1 only where the arguments are those of no order, 2 and 3 only where they name a file, or
+    // a decoder that misses packets.
     ensures refuses { result ≡ 1 → AreNoOrder (map (λ word. word.now) words.entry.now) }
     ensures unread { (result ≡ 2) ⊎ (result ≡ 3)
         → NameFile (map (λ word. word.now) words.entry.now) }
@@ -149,7 +151,7 @@ fn with_roster<O: Write>(
     with_plan(rt, order, roster.as_ref(), output, logs)
 }
 
-/// Continues with the railway of the order's plan.
+/// Continues with the railway of the order's plan, if the roster has the decoders that the order names.
 fn with_plan<O: Write>(
     rt: &HostRuntime,
     order: &mut ServerOrder,
@@ -165,6 +167,7 @@ fn with_plan<O: Write>(
     ensures starved { IfErr result (λ fault. status_of fault ≡ 6
         → (output.new ≡ output.old) × IsUnserved logs.new) }
 {
+    check_names(rt.alloc(), order.lose.as_slice(), roster)?;
     let railway = read_railway(rt, order.plan.take(), roster)?;
     with_programming(rt, order, roster, railway, output, logs)
 }
@@ -210,7 +213,8 @@ fn with_server<O: Write>(
     ensures starved { IfErr result (λ fault. status_of fault ≡ 6
         → (output.new ≡ output.old) × IsUnserved logs.new) }
 {
-    let losses = Losses::new(order.lose, u64::from(order.seed));
+    let shares = shares_of(order.lose.as_slice(), roster);
+    let losses = Losses::new(shares, u64::from(order.seed));
     let pace = pace_of(order.turns, order.rate);
     let mut server = Server::new(
         rt.alloc(),

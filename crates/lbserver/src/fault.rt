@@ -41,6 +41,8 @@ pub(crate) enum ServerFault {
         file: FileName,
         fault: LocatedFault,
     },
+    /// Status 3: the roster has no decoder of this name, for which a share of packets is given.
+    NoDecoder(String),
     /// Status 4: a text could not be written to standard output.
     Output,
     /// A fault that other programs have too.
@@ -119,6 +121,10 @@ impl ServerFault {
             }
             ServerFault::Plan { file, fault } => {
                 let _ = writeln!(faults, "{NAME}: {file}, {fault}");
+                3
+            }
+            ServerFault::NoDecoder(name) => {
+                let _ = writeln!(faults, "{NAME}: --lose {name}: no such decoder");
                 3
             }
         }

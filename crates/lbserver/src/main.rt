@@ -12,6 +12,7 @@ mod programmer_file;
 mod reach;
 mod roster_file;
 mod roster_line;
+mod shares;
 mod standard_output;
 mod terminal_writer;
 

@@ -11,6 +11,8 @@ use Rattle.std.proofs.NetLemmas.Theorems.{IsIpv4Text_unique}
 use Rattle.clap.specs.Words.{Row, Text, all_of, first_of, matches_of, one_of}
 use Rattle.command_line.specs.Values.{IsAddress, IsFlag, IsNumber, Writes, number_of}
 use Rattle.server_orders.specs.declared.words.ServerOrder.{ServerOrder}
+use Rattle.server_orders.specs.Shares.{AreShares}
+use Rattle.server_orders.specs.declared.share.Share.{Share}
 use Rattle.server_orders.specs.ServerLine.{AreHosts, IsDefaultOrder, IsNumberIfGiven, IsServerOrder, server_app, server_rules}
 
 -- clap's matches of no arguments
@@ -28,7 +30,7 @@ record HasDefaults (rows : List Row) : Type 0 where
   pub page : one_of (codes "page") rows ≡ None
   pub page_file : first_of (codes "page-file") rows ≡ None
   pub hosts : all_of (codes "host") rows ≡ None
-  pub lose : one_of (codes "lose") rows ≡ Some (codes "0")
+  pub lose : all_of (codes "lose") rows ≡ None
   pub seed : one_of (codes "seed") rows ≡ Some (codes "0")
 
 no_words : HasDefaults (matches_of server_app [])
@@ -49,6 +51,10 @@ hosts_are_none : (read : Option (List Text)) (hosts : List (String Global)) → 
 hosts_are_none read [] is same = refl
 hosts_are_none None (host ∷ hosts) is same = absurd cc
 hosts_are_none (Some names) (host ∷ hosts) is same = absurd cc
+
+shares_are_none : (read : Option (List Text)) (shares : List Share) → AreShares read shares → read ≡ None → shares ≡ []
+shares_are_none None shares is same = is
+shares_are_none (Some values) shares is same = absurd cc
 
 flag_is : (read : Option Text) (flag : Bool) → IsFlag read flag → read ≡ Some (codes "false") → flag ≡ false
 flag_is read false is same = refl
@@ -87,7 +93,7 @@ defaults rows order has is = record {
   without_page = number_is_none _ 0 65535 order.page is.at_page has.page;
   without_page_file = is.with_page ∙ has.page_file;
   without_hosts = hosts_are_none _ order.hosts.items is.by_hosts has.hosts;
-  loses_none = number_is _ (codes "0") 0 99 order.lose is.share_lost has.lose;
+  loses_none = shares_are_none _ order.lose.items is.shares_lost has.lose;
   with_seed = number_is _ (codes "0") 0 4294967295 order.seed is.with_seed has.seed;
 }
 

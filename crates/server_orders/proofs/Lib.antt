@@ -1,2 +1,3 @@
 pub mod Defaults
+pub mod Sharing
 pub mod Unmatched

@@ -43,11 +43,11 @@ none_given (Some text) least most (Usage error) kind some none = (by_given, kind
     by_given (Some n) is = none n is
 
 -- if a part is missing, the whole is missing
-pub none_of_part : {A B : Type 0} (Part : A → Type 0) (Whole : B → Type 0) (r : Result B OrderFault) (fault : OrderFault) → IsErrAnd r (λ actual. actual ≡ fault) → ((b : B) → Whole b → (a : A) × Part a) → IsUnmatched Part fault → IfErr r (IsUnmatched Whole)
-none_of_part {A} {B} Part Whole (Ok b) fault same part none = tt
-none_of_part {A} {B} Part Whole (Err NoMemory) fault same part none = tt
-none_of_part {A} {B} Part Whole (Err (Usage error)) NoMemory same part none = absurd cc
-none_of_part {A} {B} Part Whole (Err (Usage error)) (Usage other) same part none =
+pub none_of_part : {A B R : Type 0} (Part : A → Type 0) (Whole : B → Type 0) (r : Result R OrderFault) (fault : OrderFault) → IsErrAnd r (λ actual. actual ≡ fault) → ((b : B) → Whole b → (a : A) × Part a) → IsUnmatched Part fault → IfErr r (IsUnmatched Whole)
+none_of_part Part Whole (Ok value) fault same part none = tt
+none_of_part Part Whole (Err NoMemory) fault same part none = tt
+none_of_part Part Whole (Err (Usage error)) NoMemory same part none = absurd cc
+none_of_part Part Whole (Err (Usage error)) (Usage other) same part none =
     let errors : error ≡ other = cc in ((λ b is. let found = part b is in none.0 found.0 found.1), ap kind_of errors ∙ none.1)
 
 -- the settings of an order
@@ -62,7 +62,6 @@ settings_of rows order is = (
     track = order.track;
     quiet = order.quiet;
     page = order.page;
-    lose = order.lose;
     seed = order.seed;
   },
   record {
@@ -74,7 +73,6 @@ settings_of rows order is = (
     shows_track = is.shows_track;
     keeps_quiet = is.keeps_quiet;
     at_page = is.at_page;
-    share_lost = is.share_lost;
     with_seed = is.with_seed;
   },
 )

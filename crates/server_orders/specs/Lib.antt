@@ -1,1 +1,2 @@
 pub mod ServerLine
+pub mod Shares

@@ -10,6 +10,7 @@ use Rattle.command_line.specs.CommandLine.{flag, named_app, number, option, or_e
 use Rattle.command_line.specs.Fault.{IsFaultOf}
 use Rattle.command_line.specs.Requests.{AsksForText}
 use Rattle.command_line.specs.Values.{IsAddress, IsFlag, IsNumber}
+use Rattle.server_orders.specs.Shares.{AreShares}
 use Rattle.server_orders.specs.declared.words.ServerOrder.{ServerOrder}
 use Rattle.server_orders.specs.declared.words.Settings.{Settings}
 
@@ -29,7 +30,7 @@ server_rules =
     ∷ number (codes "page") 0 65535
     ∷ option (codes "page-file")
     ∷ repeated (codes "host")
-    ∷ or_else (number (codes "lose") 0 99) (codes "0")
+    ∷ repeated (codes "lose")
     ∷ or_else (number (codes "seed") 0 4294967295) (codes "0")
     ∷ []
 
@@ -78,7 +79,6 @@ pub record AreSettings (rows : List Row) (settings : Settings) : Type 0 where
   pub shows_track : IsFlag (one_of (codes "track") rows) settings.track
   pub keeps_quiet : IsFlag (one_of (codes "quiet") rows) settings.quiet
   pub at_page : IsNumberIfGiven (one_of (codes "page") rows) 0 65535 settings.page
-  pub share_lost : IsNumber (one_of (codes "lose") rows) 0 99 settings.lose
   pub with_seed : IsNumber (one_of (codes "seed") rows) 0 4294967295 settings.seed
 
 pub record IsServerOrder (rows : List Row) (order : ServerOrder) : Type 0 where
@@ -96,7 +96,7 @@ pub record IsServerOrder (rows : List Row) (order : ServerOrder) : Type 0 where
   pub with_page : order.page_file ≡ first_of (codes "page-file") rows
   pub compatible : AreCompatible rows
   pub by_hosts : AreHosts (all_of (codes "host") rows) (map (λ host. string_bytes host) order.hosts.items)
-  pub share_lost : IsNumber (one_of (codes "lose") rows) 0 99 order.lose
+  pub shares_lost : AreShares (all_of (codes "lose") rows) order.lose.items
   pub with_seed : IsNumber (one_of (codes "seed") rows) 0 4294967295 order.seed
 
 abbrev pub IsServerOrderOf : List Text → ServerOrder → Type 0
@@ -124,5 +124,5 @@ pub record IsDefaultOrder (order : ServerOrder) : Type 0 where
   pub without_page : order.page ≡ None
   pub without_page_file : order.page_file ≡ None
   pub without_hosts : order.hosts.items ≡ []
-  pub loses_none : order.lose ≡ 0
+  pub loses_none : order.lose.items ≡ []
   pub with_seed : order.seed ≡ 0

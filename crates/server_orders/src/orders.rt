@@ -7,6 +7,7 @@ ghost use Rattle.command_line.specs.Requests.{IsRequestedBy};
 ghost use Rattle.server_orders.specs.declared.words.ServerOrder.{ServerOrder as OrderValue};
 ghost use Rattle.server_orders.specs.ServerLine.{AreCompatible, AreCompatibleFor, AreHosts, AreSettings, IsDefaultOrder, IsNumberIfGiven, IsServerFault, IsServerOrder, IsServerOrderOf, is_host_byte, is_host_name, server_app};
 
+use crate::shares::shares;
 use crate::table::LBSERVER;
 use crate::words::{ServerOrder, Settings};
 use clap::ArgMatches;
@@ -184,11 +185,10 @@ fn settings(alloc: Global, found: &ArgMatches<'_>) -> Result<Settings, OrderFaul
     let Some(address) = address(found, "address") else {
         return Err(no_address(alloc));
     };
-    let (Some(port), Some(track), Some(quiet), Some(lose), Some(seed)) = (
+    let (Some(port), Some(track), Some(quiet), Some(seed)) = (
         number(found, "port", 0, 65_535),
         flag(found, "track"),
         flag(found, "quiet"),
-        number(found, "lose", 0, 99),
         number(found, "seed", 0, u32::MAX),
     ) else {
         return Err(out_of_range(alloc));
@@ -206,7 +206,6 @@ fn settings(alloc: Global, found: &ArgMatches<'_>) -> Result<Settings, OrderFaul
         track,
         quiet,
         page: page.map(|port| port as u16),
-        lose: lose as u8,
         seed,
     })
 }
@@ -246,6 +245,7 @@ fn matched(alloc: Global, found: &ArgMatches<'_>) -> Result<ServerOrder, OrderFa
     check_compatible(alloc, found)?;
     let files = file_names(alloc, found)?;
     let hosts = hosts(alloc, found)?;
+    let lose = shares(alloc, found)?;
     Ok(ServerOrder {
         address: settings.address,
         port: settings.port,
@@ -260,7 +260,7 @@ fn matched(alloc: Global, found: &ArgMatches<'_>) -> Result<ServerOrder, OrderFa
         page: settings.page,
         page_file: files.page_file,
         hosts,
-        lose: settings.lose,
+        lose,
         seed: settings.seed,
     })
 }

@@ -129,10 +129,10 @@ const HOST: Argument<'static> = Argument {
 
 const LOSE: Argument<'static> = Argument {
     id: "lose",
-    kind: Kind::Number { least: 0, most: 99 },
+    kind: Kind::Repeated,
     value_name: "N",
-    need: Need::Default("0"),
-    help: "How many of 100 packets each decoder misses, 0 to 99",
+    need: Need::Optional,
+    help: "How many of 100 packets each decoder misses, 0 to 99, or NAME=N for one; may be repeated; 0 without it",
 };
 
 const SEED: Argument<'static> = Argument {

@@ -1,5 +1,6 @@
 //! The orders that a command line of `lbserver` gives.
 
+use crate::share::Share;
 use input_text::FileName;
 use std::net::Ipv4Addr;
 
@@ -33,8 +34,8 @@ pub struct ServerOrder {
     pub page_file: Option<FileName>,
     /// The names by which browsers reach the page, besides `localhost` and IP addresses.
     pub hosts: Vec<String>,
-    /// How many of 100 packets each decoder misses, 0 to 99.
-    pub lose: u8,
+    /// The shares of packets that decoders miss, each of another decoder, at most one without a name.
+    pub lose: Vec<Share>,
     /// The seed of the generator that draws the missed packets, any 32-bit number.
     pub seed: u32,
 }
@@ -50,6 +51,5 @@ pub(crate) struct Settings {
     pub(crate) track: bool,
     pub(crate) quiet: bool,
     pub(crate) page: Option<u16>,
-    pub(crate) lose: u8,
     pub(crate) seed: u32,
 }

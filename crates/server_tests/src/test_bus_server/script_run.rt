@@ -5,7 +5,7 @@ ghost use Rattle.bus_server.specs.Pace.{is_pace};
 use super::kept::{Entry, Seen};
 use super::memory::Input::Nothing;
 use super::memory::{FakeClock, Input, MemoryTransport, NoPages, Place, Recorder, ScriptEnded};
-use bus_server::{Losses, NamedNodes, Pace, Server, Stop};
+use bus_server::{Losses, NamedNodes, Pace, Server, Shares, Stop};
 use std::convert::Infallible;
 
 /// What is given to a run: see [`MemoryTransport`], [`FakeClock`] and [`Server`].
@@ -45,7 +45,7 @@ pub(crate) fn run_server<'a, R: Place>(rt: &'a R, setup: &Setup<'a>) -> Run {
         None,
         None,
         pace_of(setup.turns),
-        Losses::new(0, 0),
+        Losses::new(Shares::new(), 0),
     )
     .expect(rt, "memory");
     let mut transport = MemoryTransport {

@@ -15,10 +15,10 @@ returns-clause-serves g c =
     on_ok_weaker c.with_log.result
     (λ served. elim c.match-order.branch [
       | in-Some+in_ok-bind_page w ↦
-          same_order now before (entries_of c.args.roster) (state_of c.args.server.now.hub).railway (state_of c.args.server.now.hub).programming (ap (λ (o : ServerOrder). pace_of o.turns o.rate) w.order-is) (ap (λ (o : ServerOrder). o.lose) w.order-is)
+          same_order now before (entries_of c.args.roster) (state_of c.args.server.now.hub).railway (state_of c.args.server.now.hub).programming (ap (λ (o : ServerOrder). pace_of o.turns o.rate) w.order-is) (ap (λ (o : ServerOrder). o.lose.items) w.order-is)
           (ap (λ (o : ServerOrder). o.seed) w.order-is) (ap (λ (o : ServerOrder). o.clients) w.order-is) c.with_log.new.sockets.log.events c.with_log.new.logs.clock.readings served
       | in_default w ↦
-          same_order now before (entries_of c.args.roster) (state_of c.args.server.now.hub).railway (state_of c.args.server.now.hub).programming (ap (λ (o : ServerOrder). pace_of o.turns o.rate) w.order-is) (ap (λ (o : ServerOrder). o.lose) w.order-is)
+          same_order now before (entries_of c.args.roster) (state_of c.args.server.now.hub).railway (state_of c.args.server.now.hub).programming (ap (λ (o : ServerOrder). pace_of o.turns o.rate) w.order-is) (ap (λ (o : ServerOrder). o.lose.items) w.order-is)
           (ap (λ (o : ServerOrder). o.seed) w.order-is) (ap (λ (o : ServerOrder). o.clients) w.order-is) c.with_log.new.sockets.log.events c.with_log.new.logs.clock.readings served
     ])
     c.with_log.ensures.serves

@@ -1,6 +1,6 @@
 use Rattle.std.proofs.Common.{◌≡◌, ℕ, ◌<◌, ◌^◌, Bool, ap, ap₂, sym, ◌∙◌, arith, bit_or, rules}
 use Rattle.std.specs.Int.{bit_at}
-use Rattle.bus_server.specs.Generator.{is_missed, word_at}
+use Rattle.bus_server.specs.Generator.{is_missed, share_at, word_at}
 use Rattle.bus_server.proofs.Missed.{first_word, next_word, none_marked, none_more, one_marked, one_shifted, word_here}
 use Rattle.bus_server.proofs.losses.Losses.draw.Goals.{then-misses, else-misses}
 use Rattle.bus_server.proofs.losses.Losses.draw.Goals as goal
@@ -9,9 +9,9 @@ pub loop-node-init : goal.loop-node-init
 loop-node-init c =
     let first = c.args.self.now in
     record {
-      share = search rules;
+      shares = search rules;
       generator = first_word first.generator;
-      drawn = none_marked (λ node. is_missed first.lose (word_at node first.generator));
+      drawn = none_marked (λ node. is_missed (share_at first.shares.items node) (word_at node first.generator));
     }
 
 pub loop-node-preserved : goal.loop-node-preserved
@@ -19,10 +19,10 @@ loop-node-preserved c =
     let first = c.args.self.now in
     let told = c.loop-node.invariant in
     let node = c.loop-node.node in
-    let passes : ℕ → Bool = λ node. is_missed first.lose (word_at node first.generator) in
-    let drawn : c.misses.result ≡ passes node = c.misses.ensures.drawn ∙ ap₂ is_missed told.share (word_here node first.generator c.loop-node.self.generator told.generator) in
+    let passes : ℕ → Bool = λ node. is_missed (share_at first.shares.items node) (word_at node first.generator) in
+    let drawn : c.misses.result ≡ passes node = c.misses.ensures.drawn ∙ ap₂ is_missed (ap (λ shares. share_at shares.items node) told.shares) (word_here node first.generator c.loop-node.self.generator told.generator) in
     record {
-      share = c.misses.ensures.share ∙ told.share;
+      shares = c.misses.ensures.shares ∙ told.shares;
       generator = next_word node first.generator c.loop-node.self.generator c.misses.new.self.generator told.generator c.misses.ensures.generator;
       drawn = elim c.if-misses.branch [
         | then-misses w ↦
