@@ -1,6 +1,6 @@
 """`lbserver` in a test: starts the program on a free port, reads its log, and has clients of it.
 
-    with Server("--lose", "20", roster="examples/layout.toml") as server:
+    with Server(lose=20, roster="examples/layout.toml") as server:
         server.power_on()
         loco = server.loco(3)
         loco.take()
@@ -55,13 +55,26 @@ POLL_SECONDS = 0.005
 
 Condition = Union[str, "re.Pattern[str]", Callable[[], Any]]
 Plan = Union[str, "os.PathLike[str]"]
+Lose = Union[int, Mapping[Union[str, None], int]]
+MOST_LOST = 99
+
+
+def lose_words(lose: Lose | None) -> list[str]:
+    """The options for these losses: a number for all decoders, or one for each name, and for the others by None."""
+    shares = {} if lose is None else lose if isinstance(lose, Mapping) else {None: lose}
+    words = []
+    for name, share in shares.items():
+        number = in_range(share, 0, MOST_LOST, "lose")
+        words += ["--lose", str(number) if name is None else f"{name}={number}"]
+    return words
 
 
 class Server(Throttle, HasNodes):
     """The program `lbserver` on a free port, until the end of a `with`, or of this process.
 
     `options` are further options of the program. `roster` is a path, the text of a roster (a str with a line feed), or
-    a list of decoders; `plan` is a path, or the text of a track plan. `port` 0 lets the program choose, which programs
+    a list of decoders; `plan` is a path, or the text of a track plan. `lose` is how many of 100 packets each decoder
+    misses, 0 to 99, or a dict of these numbers by names, in which that of all others has the key None. `port` 0 lets the program choose, which programs
     that know no port 0 refuse. With `page` it serves the page, at `page_port`. `cwd` is the folder that it runs in, and
     `seconds` how long each wait may last.
 
@@ -76,6 +89,7 @@ class Server(Throttle, HasNodes):
         *options: str,
         roster: Roster | None = None,
         plan: Plan | None = None,
+        lose: Lose | None = None,
         program: str | os.PathLike[str] | None = None,
         port: int | None = None,
         page: bool = False,
@@ -87,6 +101,7 @@ class Server(Throttle, HasNodes):
         self.page_port: int | None = None
         self.process: Process | None = None
         self._program, self._roster, self._plan, self._cwd, self._page = program, roster, plan, cwd, page
+        self._lose = lose_words(lose)
         self._chosen_port = port
         self._client: Client | None = None
         self._folder: tempfile.TemporaryDirectory[str] | None = None
@@ -101,7 +116,7 @@ class Server(Throttle, HasNodes):
         self.log = pathlib.Path(self._folder.name, "log")
         self.faults = pathlib.Path(self._folder.name, "faults")
         try:
-            words = [*self._roster_words(self._folder.name), *self._plan_words(self._folder.name)]
+            words = [*self._roster_words(self._folder.name), *self._plan_words(self._folder.name), *self._lose]
             self._start_on_free_port(find_program(self._program), words)
             self._note_layout([*words, *self.options])
         except BaseException:

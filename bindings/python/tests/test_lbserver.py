@@ -867,6 +867,21 @@ class TestServer(unittest.TestCase):
                 stream.sendall(b"GET / HTTP/1.0\r\nHost: localhost\r\n\r\n")
                 self.assertTrue(stream.makefile("rb").readline().startswith(b"HTTP/1.1 200 "))
 
+    def test_losses(self):
+        for lose in (0, {"shunter": 0, None: 99}, {"yard": 99}):
+            with Server("--turns", "1", roster=LAYOUT, lose=lose) as server:
+                server.power_on()
+                loco = server.loco(3)
+                loco.take()
+                loco.speed(63)
+                server.turns(16)
+                self.assertEqual(server.running("shunter").step, 63)
+        for lose in (100, -1, True, "5", {"shunter": None}):
+            with self.assertRaisesRegex(ValueError, "lose"):
+                Server(lose=lose)
+        with self.assertRaisesRegex(ConnectionError, "--lose nobody: no such decoder"), Server(roster=LAYOUT, lose={"nobody": 1}):
+            pass
+
     def test_options_that_are_wrong(self):
         with self.assertRaisesRegex(ConnectionError, "status 1"), Server("--lose", "100"):
             pass
