@@ -21,6 +21,7 @@ from server_checks.common import (
     send,
     serve,
     turns_of,
+    within,
 )
 from serving import Client, Page
 
@@ -83,6 +84,69 @@ def three_turns():
     same("printed with --track", run_three_turns(0, "--track"), wanted)
     same("printed with --track, and time between", run_three_turns(0.03, "--track"), wanted)
     same("printed without --track", run_three_turns(0), [line for line in wanted if not line.startswith("track ")])
+
+
+IDLE_MICROS = 5796
+
+
+def micros_of(packet):
+    """The duration of a packet, by S-9.1: 14 ones, a zero before each byte, and a one; 116 and 200 microseconds."""
+    bits = "".join(f"0{int(byte, 16):08b}" for byte in packet.split())
+    return 116 * (15 + bits.count("1")) + 200 * bits.count("0")
+
+
+def clock_text(micros):
+    seconds, millis = divmod(micros // 1000, 1000)
+    return f"{seconds // 3600}:{seconds // 60 % 60:02}:{seconds % 60:02}.{millis:03}"
+
+
+def times():
+    """--times: each line begins with the track time at which its turn began, and without it none does"""
+    lines = [line for _, _, lines in THREE_TURNS for line in lines]
+    durations = {int(line.split()[1]): micros_of(line.split(" ", 2)[2]) for line in lines if line.startswith("track ")}
+    wanted = ["0:00:00.000 client 1 joins"]
+    for i, (_, _, lines) in enumerate(THREE_TURNS):
+        turn = 3 * i
+        for line in lines:
+            turn = int(line.split()[1]) if line.startswith("track ") else turn
+            wanted.append(f"{clock_text(sum(durations.get(k, IDLE_MICROS) for k in range(turn)))} {line}")
+    found = run_three_turns(0, "--track", "--times")
+    same("printed", found[:-1], wanted)
+    # Turn 0 and six turns of idle packets or none come before it.
+    holds("the time of turn 7", "0:00:00.040 track 7 03 3F 80 BC" in found)
+    holds("the last time", found[-1].startswith("0:00:00.") and found[-1].endswith(" client 1 leaves"))
+    with serve("--turns", "0", "--times") as server, Client(server) as client:
+        for count in range(1, 64):
+            client.write(["TURNS 10000", "SEND 81 7E"])
+            client.lines_until("SENT OK")
+        printed = printed_after(server, f"{clock_text(630_000 * IDLE_MICROS)} message 81 7E  busy, ignored")
+        same("times without power", [line.split()[0] for line in printed[1:]], [clock_text(10_000 * IDLE_MICROS * k) for k in range(1, 64)])
+        same("the last", printed[-1], "1:00:51.480 message 81 7E  busy, ignored")
+
+
+def times_of_the_clock():
+    """--times in real time: the time passes as the clock's, with --rate 100 a hundred times as fast"""
+    for rate in (1, 100):
+        is_tried_again(lambda: keep_time(rate))
+
+
+def keep_time(rate):
+    """Compares the times of two messages with the clock."""
+    with serve("--rate", str(rate), "--times") as server, Client(server) as client:
+        outer = time.monotonic()
+        client.send(0x82)
+        inner = time.monotonic()
+        time.sleep(0.3)
+        least = (time.monotonic() - inner) * rate
+        client.send(0x81)
+        most = (time.monotonic() - outer) * rate
+        holds("both are printed", server.until(lambda: len(server.printed()) == 4))
+        printed = server.printed()
+        hours, minutes, seconds = zip(*(map(float, line.split()[0].split(":")) for line in printed if " message " in line))
+        first, last = (3600 * h + 60 * m + s for h, m, s in zip(hours, minutes, seconds))
+        # The time of a line is up to two turns and a wait of the server old.
+        late = 0.012 + 0.005 * rate
+        within(f"seconds, --rate {rate}", least - late, last - first, most + late)
 
 
 def other_turns():

@@ -12,6 +12,8 @@ from .decoders import Motion, Outputs, State, read_node_line
 from .messages import SensorReport, sensor_report_in
 
 _CONFLICT = re.compile(r"conflict (\S+): (\S+), (\S+)")
+# The time with which each line begins with the option `--times`.
+_TIME = re.compile(r"\d+:\d\d:\d\d\.\d{3} ")
 _DERAILMENT = re.compile(r"derailed (\S+) at turnout (\d+)")
 
 
@@ -63,7 +65,9 @@ class Log:
         return self.lines
 
     def _note(self, number: int, line: str) -> None:
-        """Notes what a line says."""
+        """Notes what a line says, whatever its time."""
+        if time := _TIME.match(line):
+            line = line[time.end() :]
         word = line.partition(" ")[0]
         if word == "node" and (node := read_node_line(line)):
             self.nodes[node[0]] = number, node[1]

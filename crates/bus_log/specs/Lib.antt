@@ -3,4 +3,5 @@ pub mod Listening
 pub mod LogQueues
 pub mod Printers
 pub mod RailwayLines
+pub mod Times
 pub mod Verbosities

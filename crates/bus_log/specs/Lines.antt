@@ -18,17 +18,20 @@ use Rattle.describe.specs.Messages.{message_words}
 use Rattle.bus.specs.declared.outcome.Outcome.{Outcome}
 use Rattle.bus.specs.declared.outcome.Outcome.TheVariants.{Nothing, Connected, Disconnected, Rejected, Reported, Programmed, Sent, TurnBegan, TurnsRequested, StatesRequested, PlaceRequested, DeviceRequested, Placed, DeviceAnswered}
 use Rattle.text.specs.Hex.{hex_words}
+use Rattle.bus_log.specs.declared.turn_times.TurnTimes.{TurnTimes}
+use Rattle.bus_log.specs.Times.{first_times, times_after}
 
--- The state of a printer: the turns, the state of each decoder when it was last printed, or at the
--- start, and the trains at the last outcome, or at the start.
+-- The state of a printer: the turns, the times of the one under way, the state of each decoder when it
+-- was last printed, or at the start, and the trains at the last outcome, or at the start.
 pub record PrinterState : Type 0 where
   pub turns : ℕ
+  pub times : TurnTimes
   pub decoder_states : List DecoderState
   pub trains : List TrainState
 
 -- at the start
 abbrev pub initial_printer_state : (decoder_states : List DecoderState) → List TrainState → PrinterState
-initial_printer_state decoder_states trains = record { turns = 0; decoder_states = decoder_states; trains = trains }
+initial_printer_state decoder_states trains = record { turns = 0; times = first_times; decoder_states = decoder_states; trains = trains }
 
 -- One more. A count stays at 2 ^ 64 - 1: that many turns last three thousand million years.
 abbrev pub saturating_successor : ℕ → ℕ
@@ -36,7 +39,7 @@ saturating_successor count = if nat_lt count 0xFFFFFFFFFFFFFFFF then count + 1 e
 
 -- the printer's state after an outcome, with the decoders in these states, and these trains
 abbrev pub printer_state_after : PrinterState → Outcome → (decoder_states : List DecoderState) → List TrainState → PrinterState
-printer_state_after before (TurnBegan packet) decoder_states trains = record before { turns = saturating_successor before.turns; decoder_states = decoder_states; trains = trains }
+printer_state_after before (TurnBegan packet) decoder_states trains = record before { turns = saturating_successor before.turns; times = times_after before.times (TurnBegan packet); decoder_states = decoder_states; trains = trains }
 printer_state_after before other decoder_states trains = record before { trains = trains }
 
 -- the action of a client, 0 to 7; the log counts clients from 1

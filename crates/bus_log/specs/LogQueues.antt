@@ -3,12 +3,17 @@ use Rattle.std.specs.Prelude.{ℕ, ◌≡◌, ◌<◌, ◌⊎◌, ◌+◌, ◌==
 use Rattle.std.specs.Io.KnownBytes.{Appends}
 use Rattle.bus_log.specs.Lines.{saturating_successor}
 
--- the bytes of whole lines that are queued, the bytes held of the unfinished line, and the number
--- of lines left out since
+-- the bytes of whole lines that are queued, the bytes held of the unfinished line, the text with which
+-- each line begins, and the number of lines left out since
 pub record LogState : Type 0 where
   pub queued : List ℕ
   pub line : List ℕ
+  pub stamp : List ℕ
   pub left_out : ℕ
+
+-- each line that follows begins with this text
+abbrev pub begun_with : List ℕ → LogState → LogState
+begun_with stamp log = record log { line = stamp; stamp = stamp }
 
 -- the bytes held of a line after its next byte: its first 1,025
 abbrev pub held_after : List ℕ → ℕ → List ℕ
@@ -22,8 +27,8 @@ has_room log = log.left_out == 0 && nat_le (length log.line) 1024 && nat_le (len
 -- a line ends: it is queued, or left out and counted
 abbrev pub ended : LogState → LogState
 ended log =
-    if has_room log then record { queued = log.queued ++ log.line; line = []; left_out = log.left_out }
-    else record { queued = log.queued; line = []; left_out = saturating_successor log.left_out }
+    if has_room log then record log { queued = log.queued ++ log.line; line = log.stamp }
+    else record log { line = log.stamp; left_out = saturating_successor log.left_out }
 
 -- a byte is printed
 abbrev pub after_byte : LogState → ℕ → LogState

@@ -1,5 +1,5 @@
 -- A printer, as contracts see it.
-use Rattle.std.specs.Prelude.{ℕ, List, ◌++◌, map, Option}
+use Rattle.std.specs.Prelude.{ℕ, ◌/◌, if◌then◌else◌, List, ◌++◌, map, Option}
 use Rattle.layout_core.specs.declared.node.Node.{Node}
 use Rattle.layout_core.specs.declared.decoder_state.DecoderState.{DecoderState}
 use Rattle.layout_core.specs.DecoderStates.{decoder_state_of}
@@ -9,10 +9,18 @@ use Rattle.bus_log.specs.declared.printer.Printer.{Printer}
 use Rattle.roster.specs.Decoders.{entries_of}
 use Rattle.bus_log.specs.Lines.{PrinterState, lines_of}
 use Rattle.bus_log.specs.RailwayLines.{railway_lines}
-use Rattle.bus_log.specs.Verbosities.{prints_packets}
+use Rattle.bus_log.specs.declared.turn_times.TurnTimes.{TurnTimes}
+use Rattle.bus_log.specs.declared.verbosity.Verbosity.{Verbosity}
+use Rattle.bus_log.specs.LogQueues.{LogState, begun_with}
+use Rattle.bus_log.specs.Times.{time_text}
+use Rattle.bus_log.specs.Verbosities.{has_times, prints_packets}
 
 abbrev pub printer_state : Printer → PrinterState
-printer_state printer = record { turns = printer.turns; decoder_states = printer.decoder_states.items; trains = printer.trains.items }
+printer_state printer = record { turns = printer.turns; times = printer.times; decoder_states = printer.decoder_states.items; trains = printer.trains.items }
+
+-- each line that follows begins with the time at which this turn began, if lines have times
+abbrev pub log_at : Verbosity → TurnTimes → LogState → LogState
+log_at verbosity times log = if has_times verbosity then begun_with (time_text (times.began / 1000)) log else log
 
 -- the states of the decoders of a layout
 abbrev pub decoder_states_of : List Node → List DecoderState

@@ -19,6 +19,8 @@ mod messages;
 mod printer;
 mod programming_lines;
 mod railway_lines;
+mod times;
+mod turn_times;
 mod verbosity;
 
 pub use laws::ignored_messages_have_no_effect;
@@ -27,4 +29,5 @@ pub use listening::print_listening;
 pub use log_output::{LogOutput, write_queued};
 pub use log_queue::LogQueue;
 pub use printer::{Printer, decoders};
+pub use turn_times::TurnTimes;
 pub use verbosity::Verbosity;

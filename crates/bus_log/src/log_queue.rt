@@ -2,9 +2,10 @@
 ghost use Rattle.std.specs.Prelude.{◌≡◌, ◌<◌, ◌≤◌, ◌++◌, ◌∷◌, [], IfOk, List, ℕ, OnOk, drop, length, take, true, false};
 ghost use Rattle.std.specs.Io.{WritesAtMost};
 ghost use Rattle.std.specs.Fmt.{decimal};
-ghost use Rattle.bus_log.specs.LogQueues.{after_byte, after_lines, after_text, ended, is_reported};
+ghost use Rattle.bus_log.specs.LogQueues.{after_byte, after_lines, after_text, begun_with, ended, is_reported};
 
 use crate::line_queue::{LOG_CAPACITY, LineQueue};
+use crate::times::Stamp;
 use arrayvec::{ArrayString, ArrayVec};
 use show_text::Line;
 use std::alloc::{AllocError, Global};
@@ -12,7 +13,7 @@ use std::fmt::Write as _;
 use std::io;
 use std::io::Write;
 use std::marker::Model;
-use text::decimal_digits;
+use text::{decimal_digits, push_bytes};
 
 /// The longest line that is queued, in bytes, including its line feed.
 const LONGEST_LINE: usize = 1_024;
@@ -31,6 +32,7 @@ const REPORTED_BELOW: usize = 32_768;
 pub struct LogQueue {
     queue: LineQueue,
     line: ArrayVec<u8, 1025>,
+    stamp: Stamp,
     left_out: u64,
 }
 
@@ -40,7 +42,12 @@ impl Model for LogQueue {
     ghost Value = { LogState };
 
     ghost view = { λ log.
-        record { queued = log.queue; line = log.line.items; left_out = log.left_out } };
+        record {
+          queued = log.queue;
+          line = log.line.items;
+          stamp = log.stamp.bytes;
+          left_out = log.left_out;
+        } };
 }
 
 impl LogQueue {
@@ -50,11 +57,13 @@ impl LogQueue {
     ///
     /// Out of memory.
     pub fn new(alloc: Global) -> Result<LogQueue, AllocError>
-        ensures { IfOk result (λ log. log ≡ record { queued = []; line = []; left_out = 0 }) }
+        ensures { IfOk result
+            (λ log. log ≡ record { queued = []; line = []; stamp = []; left_out = 0 }) }
     {
         Ok(LogQueue {
             queue: LineQueue::new(alloc)?,
             line: ArrayVec::new(),
+            stamp: Stamp::new(),
             left_out: 0,
         })
     }
@@ -97,6 +106,22 @@ impl LogQueue {
             self.queue.push(left_out_line(self.left_out).as_bytes());
             self.left_out = 0;
         }
+    }
+
+    /// Lets each line that follows begin with this text.
+    pub(crate) fn begin_with(&mut self, stamp: Stamp)
+        ensures { self.new ≡ begun_with stamp.bytes self.old }
+    {
+        self.stamp = stamp;
+        self.begin_line();
+    }
+
+    /// Begins a line, without what is held of the unfinished one.
+    fn begin_line(&mut self)
+        ensures { self.new ≡ record self.old { line = self.old.stamp } }
+    {
+        self.line.clear();
+        push_bytes(&mut self.line, self.stamp.as_bytes());
     }
 
     /// Prints a text: lines, of which each is queued when its line feed is printed.
@@ -151,7 +176,7 @@ impl LogQueue {
         } else {
             self.left_out = self.left_out.saturating_add(1);
         }
-        self.line.clear();
+        self.begin_line();
     }
 }
 

@@ -7,6 +7,7 @@ ghost use Rattle.roster.specs.Decoders.{entries_of, names_of, specs_of};
 ghost use Rattle.roster.specs.Entry.{spec_of as entry_spec};
 ghost use Rattle.bus_server.specs.NamedNodes.{names_of as named_names, specs_of as named_specs};
 ghost use Rattle.bus_log.specs.LogQueues.{after_lines};
+ghost use Rattle.bus_log.specs.Times.{times_after};
 ghost use Rattle.bus_log.specs.RailwayLines.{trains_of};
 ghost use Rattle.bus_log.specs.Lines.{changed_lines, client_line, lines_unless, overflow_line, saturating_successor, packet_lines, skipped_line};
 
@@ -15,6 +16,8 @@ use crate::log_queue::LogQueue;
 use crate::messages::print_message;
 use crate::programming_lines::print_programming;
 use crate::railway_lines::{Trains, keep_trains, print_railway, trains_of};
+use crate::times::{first_times, time_stamp, times_after};
+use crate::turn_times::TurnTimes;
 use crate::verbosity::Verbosity;
 use arrayvec::ArrayVec;
 use bus::Outcome;
@@ -40,13 +43,15 @@ pub struct Printer<'a> {
     pub(crate) decoder_states: DecoderStates,
     /// The turns since the start.
     pub(crate) turns: u64,
+    /// The times of the turn under way.
+    pub(crate) times: TurnTimes,
     /// The trains at the last outcome, or at the start.
     pub(crate) trains: Trains,
     ghost as_many: { length decoder_states.items ≡ length (entries_of roster) },
 }
 
 impl<'a> Printer<'a> {
-    ghost use Rattle.bus_log.specs.Printers.{observed_lines, outcome_lines, printer_state, decoder_states_of};
+    ghost use Rattle.bus_log.specs.Printers.{log_at, observed_lines, outcome_lines, printer_state, decoder_states_of};
     ghost use Rattle.bus_log.specs.RailwayLines.{railway_lines};
     ghost use Rattle.bus_log.specs.Lines.{initial_printer_state, printer_state_after};
     ghost use Rattle.bus.specs.declared.outcome.Outcome.TheVariants.{TurnBegan};
@@ -76,6 +81,7 @@ impl<'a> Printer<'a> {
             verbosity,
             decoder_states: decoder_states(world),
             turns: 0,
+            times: first_times(),
             trains: trains_of(railway),
         }
     }
@@ -168,6 +174,18 @@ impl<'a> Printer<'a> {
         print_railway(&mut self.log, self.roster, self.trains.as_slice(), railway);
     }
 
+    /// Lets each line that follows begin with the time at which this turn began, if lines have times.
+    fn begin_lines(&mut self, times: TurnTimes)
+        ensures log { self.new.log ≡ log_at self.old.verbosity times self.old.log }
+        ensures printer_state { printer_state self.new ≡ printer_state self.old }
+        ensures roster { self.new.roster ≡ self.old.roster }
+        ensures verbosity { self.new.verbosity ≡ self.old.verbosity }
+    {
+        if self.verbosity.has_times() {
+            self.log.begin_with(time_stamp(times.began / 1_000));
+        }
+    }
+
     /// Counts a turn, and keeps the states of the decoders after it, and the trains.
     fn update(&mut self, outcome: &Outcome, world: &World, railway: Option<&Railway>)
         requires { map spec_of world.now.nodes ≡ specs_of (entries_of self.old.roster) }
@@ -180,6 +198,7 @@ impl<'a> Printer<'a> {
     {
         if let Outcome::TurnBegan { .. } = outcome {
             self.turns = self.turns.saturating_add(1);
+            self.times = times_after(self.times, outcome);
             self.decoder_states = decoder_states(world);
         }
         keep_trains(&mut self.trains, railway);
@@ -188,7 +207,7 @@ impl<'a> Printer<'a> {
 
 impl Observer for Printer<'_> {
     ghost use Rattle.bus_log.specs.Verbosities.{is_quiet};
-    ghost use Rattle.bus_log.specs.Printers.{printer_state, decoder_states_of, observed_lines};
+    ghost use Rattle.bus_log.specs.Printers.{log_at, printer_state, decoder_states_of, observed_lines};
     ghost use Rattle.bus_log.specs.Lines.{printer_state_after};
 
     type Fault = Infallible;
@@ -198,7 +217,7 @@ impl Observer for Printer<'_> {
     ghost observed = { λ _. None };
 
     /// Prints an outcome and what has changed on the railway, unless the log is quiet, and records
-    /// both.
+    /// both. A line that has a time has that at which the turn under way began, of the track.
     fn observe(
         &mut self,
         outcome: &Outcome,
@@ -207,7 +226,9 @@ impl Observer for Printer<'_> {
     ) -> Result<(), Infallible>
         requires { map spec_of world.now.nodes ≡ specs_of (entries_of self.old.roster) }
         ensures printed { self.new.log
-            ≡ after_lines self.old.log (lines_unless (is_quiet self.old.verbosity)
+            ≡ after_lines
+            (log_at self.old.verbosity (times_after self.old.times outcome.now) self.old.log)
+            (lines_unless (is_quiet self.old.verbosity)
             (observed_lines self.old outcome.now world.now.nodes (option_copied railway.entry))) }
         ensures printer_state { printer_state self.new
             ≡ printer_state_after (printer_state self.old) outcome.now
@@ -217,6 +238,7 @@ impl Observer for Printer<'_> {
         ensures roster { self.new.roster ≡ self.old.roster }
         ensures verbosity { self.new.verbosity ≡ self.old.verbosity }
     {
+        self.begin_lines(times_after(self.times, outcome));
         if !self.verbosity.is_quiet() {
             self.print_observed(outcome, world, railway);
         }
@@ -227,7 +249,7 @@ impl Observer for Printer<'_> {
     /// Prints that the queue of a client has overflowed, unless the log is quiet.
     fn overflowed(&mut self, client: u8) -> Result<(), Infallible>
         ensures printed { self.new.log
-            ≡ after_lines self.old.log
+            ≡ after_lines (log_at self.old.verbosity self.old.times self.old.log)
             (lines_unless (is_quiet self.old.verbosity) (overflow_line client ∷ [])) }
         ensures printer_state { printer_state self.new ≡ printer_state self.old }
         ensures decoder_specs { specs_of (entries_of self.new.roster)
@@ -235,6 +257,7 @@ impl Observer for Printer<'_> {
         ensures roster { self.new.roster ≡ self.old.roster }
         ensures verbosity { self.new.verbosity ≡ self.old.verbosity }
     {
+        self.begin_lines(self.times);
         if !self.verbosity.is_quiet() {
             print_client(&mut self.log, client, " is too slow");
         }
@@ -244,7 +267,7 @@ impl Observer for Printer<'_> {
     /// Prints that the machine was asleep, unless the log is quiet.
     fn skipped(&mut self, micros: u64) -> Result<(), Infallible>
         ensures printed { self.new.log
-            ≡ after_lines self.old.log
+            ≡ after_lines (log_at self.old.verbosity self.old.times self.old.log)
             (lines_unless (is_quiet self.old.verbosity) (skipped_line (micros / 1000) ∷ [])) }
         ensures printer_state { printer_state self.new ≡ printer_state self.old }
         ensures decoder_specs { specs_of (entries_of self.new.roster)
@@ -252,6 +275,7 @@ impl Observer for Printer<'_> {
         ensures roster { self.new.roster ≡ self.old.roster }
         ensures verbosity { self.new.verbosity ≡ self.old.verbosity }
     {
+        self.begin_lines(self.times);
         if !self.verbosity.is_quiet() {
             self.log
                 .print_count("slept ", micros / 1000, " ms, left out");

@@ -310,7 +310,7 @@ fn with_log<O: Write>(
     report_addresses(rt, sockets, &mut log, logs)?;
     // The output notes a failed write; the lines stay queued.
     let _ = write_queued(&mut log, output, Duration::ZERO);
-    let verbosity = Verbosity::of(order.track, order.quiet);
+    let verbosity = Verbosity::of(order.track, order.quiet, order.times);
     let mut printer = Printer::new(log, roster, verbosity, server.world(), server.railway());
     let served = serve(rt, order, server, sockets, &mut printer, output, logs);
     // A reader that accepts nothing for this long is not waited for.
@@ -384,7 +384,8 @@ fn serve<O: Write>(
     logs: &mut DeviceLogs,
 ) -> Result<(), ServerFault>
     requires ready { IsReady order.now (entries_of printer.old.roster) server.old.hub }
-    requires verbosity { printer.old.verbosity ≡ verbosity_of order.now.track order.now.quiet }
+    requires verbosity { printer.old.verbosity
+        ≡ verbosity_of order.now.track order.now.quiet order.now.times }
     requires new { sockets.old.log.events ≡ [] }
     ensures serves { OnOk result (ServesBy order.now (entries_of printer.old.roster)
         (state_of server.old.hub).railway (state_of server.old.hub).programming
@@ -422,7 +423,8 @@ fn serve_on<'p, W: Transport, C: TimeSource, A: AfterRound<W, Printer<'p>>>(
         (run_snapshot (W.log transport.old) (C.readings clock.old) None
         (A.shown after_round.old) server.old.hub) }
     requires ready { IsReady order.now (entries_of printer.old.roster) server.old.hub }
-    requires verbosity { printer.old.verbosity ≡ verbosity_of order.now.track order.now.quiet }
+    requires verbosity { printer.old.verbosity
+        ≡ verbosity_of order.now.track order.now.quiet order.now.times }
     ensures serves { OnOk result (ServesLogged order.now (entries_of printer.old.roster)
         (state_of server.old.hub).railway (state_of server.old.hub).programming
         (logs_of (W.log transport.old) (C.readings clock.old) (A.shown after_round.old))

@@ -27,6 +27,7 @@ record HasDefaults (rows : List Row) : Type 0 where
   pub clients : one_of (codes "clients") rows ≡ None
   pub track : one_of (codes "track") rows ≡ Some (codes "false")
   pub quiet : one_of (codes "quiet") rows ≡ Some (codes "false")
+  pub times : one_of (codes "times") rows ≡ Some (codes "false")
   pub page : one_of (codes "page") rows ≡ None
   pub page_file : first_of (codes "page-file") rows ≡ None
   pub hosts : all_of (codes "host") rows ≡ None
@@ -35,7 +36,7 @@ record HasDefaults (rows : List Row) : Type 0 where
 
 no_words : HasDefaults (matches_of server_app [])
 unfolding server_rules server_app
-no_words = record { address = refl; port = refl; roster = refl; plan = refl; programmer = refl; turns = refl; rate = refl; clients = refl; track = refl; quiet = refl; page = refl; page_file = refl; hosts = refl; lose = refl; seed = refl }
+no_words = record { address = refl; port = refl; roster = refl; plan = refl; programmer = refl; turns = refl; rate = refl; clients = refl; track = refl; quiet = refl; times = refl; page = refl; page_file = refl; hosts = refl; lose = refl; seed = refl }
 
 number_is : (read : Option Text) (text : Text) (least most n : ℕ) → IsNumber read least most n → read ≡ Some text → n ≡ number_of text
 number_is read text least most n is same =
@@ -90,6 +91,7 @@ defaults rows order has is = record {
   for_ever = number_is_none _ 0 4294967295 order.clients is.most_clients has.clients;
   shows_no_track = flag_is _ order.track is.shows_track has.track;
   prints_log = flag_is _ order.quiet is.keeps_quiet has.quiet;
+  without_times = flag_is _ order.times is.has_times has.times;
   without_page = number_is_none _ 0 65535 order.page is.at_page has.page;
   without_page_file = is.with_page ∙ has.page_file;
   without_hosts = hosts_are_none _ order.hosts.items is.by_hosts has.hosts;

@@ -61,6 +61,7 @@ settings_of rows order is = (
     clients = order.clients;
     track = order.track;
     quiet = order.quiet;
+    times = order.times;
     page = order.page;
     seed = order.seed;
   },
@@ -72,6 +73,7 @@ settings_of rows order is = (
     most_clients = is.most_clients;
     shows_track = is.shows_track;
     keeps_quiet = is.keeps_quiet;
+    has_times = is.has_times;
     at_page = is.at_page;
     with_seed = is.with_seed;
   },

@@ -27,6 +27,7 @@ server_rules =
     ∷ number (codes "clients") 0 4294967295
     ∷ flag (codes "track")
     ∷ flag (codes "quiet")
+    ∷ flag (codes "times")
     ∷ number (codes "page") 0 65535
     ∷ option (codes "page-file")
     ∷ repeated (codes "host")
@@ -78,6 +79,7 @@ pub record AreSettings (rows : List Row) (settings : Settings) : Type 0 where
   pub most_clients : IsNumberIfGiven (one_of (codes "clients") rows) 0 4294967295 settings.clients
   pub shows_track : IsFlag (one_of (codes "track") rows) settings.track
   pub keeps_quiet : IsFlag (one_of (codes "quiet") rows) settings.quiet
+  pub has_times : IsFlag (one_of (codes "times") rows) settings.times
   pub at_page : IsNumberIfGiven (one_of (codes "page") rows) 0 65535 settings.page
   pub with_seed : IsNumber (one_of (codes "seed") rows) 0 4294967295 settings.seed
 
@@ -92,6 +94,7 @@ pub record IsServerOrder (rows : List Row) (order : ServerOrder) : Type 0 where
   pub most_clients : IsNumberIfGiven (one_of (codes "clients") rows) 0 4294967295 order.clients
   pub shows_track : IsFlag (one_of (codes "track") rows) order.track
   pub keeps_quiet : IsFlag (one_of (codes "quiet") rows) order.quiet
+  pub has_times : IsFlag (one_of (codes "times") rows) order.times
   pub at_page : IsNumberIfGiven (one_of (codes "page") rows) 0 65535 order.page
   pub with_page : order.page_file ≡ first_of (codes "page-file") rows
   pub compatible : AreCompatible rows
@@ -121,6 +124,7 @@ pub record IsDefaultOrder (order : ServerOrder) : Type 0 where
   pub for_ever : order.clients ≡ None
   pub shows_no_track : order.track ≡ false
   pub prints_log : order.quiet ≡ false
+  pub without_times : order.times ≡ false
   pub without_page : order.page ≡ None
   pub without_page_file : order.page_file ≡ None
   pub without_hosts : order.hosts.items ≡ []

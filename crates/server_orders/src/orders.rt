@@ -185,10 +185,11 @@ fn settings(alloc: Global, found: &ArgMatches<'_>) -> Result<Settings, OrderFaul
     let Some(address) = address(found, "address") else {
         return Err(no_address(alloc));
     };
-    let (Some(port), Some(track), Some(quiet), Some(seed)) = (
+    let (Some(port), Some(track), Some(quiet), Some(times), Some(seed)) = (
         number(found, "port", 0, 65_535),
         flag(found, "track"),
         flag(found, "quiet"),
+        flag(found, "times"),
         number(found, "seed", 0, u32::MAX),
     ) else {
         return Err(out_of_range(alloc));
@@ -205,6 +206,7 @@ fn settings(alloc: Global, found: &ArgMatches<'_>) -> Result<Settings, OrderFaul
         clients,
         track,
         quiet,
+        times,
         page: page.map(|port| port as u16),
         seed,
     })
@@ -257,6 +259,7 @@ fn matched(alloc: Global, found: &ArgMatches<'_>) -> Result<ServerOrder, OrderFa
         clients: settings.clients,
         track: settings.track,
         quiet: settings.quiet,
+        times: settings.times,
         page: settings.page,
         page_file: files.page_file,
         hosts,

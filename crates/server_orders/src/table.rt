@@ -9,8 +9,8 @@ pub(crate) const LBSERVER: ProgramText<'static, 'static> = ProgramText {
         about: "A LocoNet command station for clients of LocoNet over TCP, up to eight at once",
         details: "Example: lbserver --roster layout.toml --port 1234 --track",
         arguments: &[
-            ADDRESS, PORT, ROSTER, PLAN, PROGRAMMER, TURNS, RATE, CLIENTS, TRACK, QUIET, PAGE,
-            PAGE_FILE, HOST, LOSE, SEED,
+            ADDRESS, PORT, ROSTER, PLAN, PROGRAMMER, TURNS, RATE, CLIENTS, TRACK, QUIET, TIMES,
+            PAGE, PAGE_FILE, HOST, LOSE, SEED,
         ],
     },
     subcommands: &[],
@@ -98,6 +98,14 @@ const QUIET: Argument<'static> = Argument {
     value_name: "",
     need: Need::Optional,
     help: "Prints nothing but the addresses, with --track too",
+};
+
+const TIMES: Argument<'static> = Argument {
+    id: "times",
+    kind: Kind::Flag,
+    value_name: "",
+    need: Need::Optional,
+    help: "Begins each line of the log with the track time since the start, as 0:00:12.345",
 };
 
 const PAGE: Argument<'static> = Argument {

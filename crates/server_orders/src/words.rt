@@ -28,6 +28,8 @@ pub struct ServerOrder {
     pub track: bool,
     /// Whether nothing but the addresses is printed, not even packets.
     pub quiet: bool,
+    /// Whether each line of the log begins with its time.
+    pub times: bool,
     /// The port of the page, 0 to 65535, 0 for a free one. Without it no page is served.
     pub page: Option<u16>,
     /// The file of the page. Without it, the page of the repository is served.
@@ -50,6 +52,7 @@ pub(crate) struct Settings {
     pub(crate) clients: Option<u32>,
     pub(crate) track: bool,
     pub(crate) quiet: bool,
+    pub(crate) times: bool,
     pub(crate) page: Option<u16>,
     pub(crate) seed: u32,
 }
