@@ -882,6 +882,15 @@ class TestServer(unittest.TestCase):
         with self.assertRaisesRegex(ConnectionError, "--lose nobody: no such decoder"), Server(roster=LAYOUT, lose={"nobody": 1}):
             pass
 
+    def test_times(self):
+        with Server("--turns", "16", "--times", roster=LAYOUT) as server:
+            server.power_on()
+            loco = server.loco(3)
+            loco.take()
+            loco.speed(63)
+            self.assertEqual(server.running("shunter").step, 63)
+            self.assertRegex(server.wait_for(re.compile("node shunter")).string, r"^0:00:00\.\d{3} node shunter ")
+
     def test_options_that_are_wrong(self):
         with self.assertRaisesRegex(ConnectionError, "status 1"), Server("--lose", "100"):
             pass
