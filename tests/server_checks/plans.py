@@ -145,6 +145,7 @@ PARTS = [
     (TIMED_TURNOUT + "-1", "turnout 3: time must be 0 to 10000"),
     (TIMED_TURNOUT + "10001", "turnout 3: time must be 0 to 10000"),
     (TIMED_TURNOUT + "true", "turnout 3: time must be 0 to 10000"),
+    (TIMED_TURNOUT + "0\nfeedback = 1", "turnout 3: feedback must be true or false"),
     ("[[train]]", "train 1: decoder must be a name of the roster"),
     ("[[train]]\ndecoder = 3", "train 1: decoder must be a name of the roster"),
     ('[[train]]\ndecoder = "shunter"', "train 1 (shunter): the roster has no decoder of this name"),
