@@ -44,8 +44,7 @@ with Server(*options, roster=str(HERE / "shuttle-roster.toml")) as server, serve
             run(client, locos, *leg)
         laps += 1
     client.sync()  # the log has all that happened
-    found = server.conflicts() + server.derailments()
-    print(f"{laps} laps, {len(found)} conflicts", *found, sep="\n")
+    print(f"{laps} laps, {len(found := server.conflicts() + server.derailments())} conflicts", *found, sep="\n")
     for leg in (IN, ((False, True), False, (WEST, None)), ((True, True), True, (WEST, None))):
         run(client, locos, *leg)  # in the last one turnout 1 is wrong
     print("turnout 1 wrong:", server.wait_for("conflict down: local, express"))
