@@ -113,13 +113,10 @@ is_alone zero switch (turnout ∷ turnouts) =
 is_alone (suc index) switch (turnout ∷ turnouts) =
     not (reports_of_switch switch turnout) && is_alone index switch turnouts
 
--- The side that a request for its state is answered by: a side that it moves to is not reached.
-abbrev pub is_known_thrown : TurnoutState → Bool
-is_known_thrown state = if is_moving state then not state.is_thrown else state.is_thrown
-
--- the long acknowledge of OPC_SW_STATE: bit 5 is 1 for closed
+-- the long acknowledge of OPC_SW_STATE (own: bit 5 of its code is 1 for closed), by the side that the
+-- turnout was asked for last, as command stations answer
 abbrev pub state_reply : TurnoutState → Reply
-state_reply state = LongAck 0x3C (if is_known_thrown state then 0 else 0x20)
+state_reply state = LongAck 0x3C (if state.is_thrown then 0 else 0x20)
 
 abbrev pub state_bytes : TurnoutState → List ℕ
 state_bytes state = reply_bytes (state_reply state)

@@ -2,7 +2,7 @@
 //! Use Edition 1.0, OPC_SW_REP and OPC_SW_STATE).
 ghost use Rattle.std.specs.Prelude.{◌≡◌};
 ghost use Rattle.ln_frame.specs.Message.{IsWhole};
-ghost use Rattle.railway.specs.Feedback.{feedback_reply, full_turnouts, is_known_thrown, is_with_feedback, movement_of, movements_within, report_at, turnout_report_bytes, requested_switch, side_report, state_bytes, state_answer};
+ghost use Rattle.railway.specs.Feedback.{feedback_reply, full_turnouts, is_with_feedback, movement_of, movements_within, report_at, turnout_report_bytes, requested_switch, side_report, state_bytes, state_answer};
 ghost use Rattle.railway.specs.Turnouts.{moved_on_under, observed, same_bool};
 
 use crate::joint::TurnoutState;
@@ -99,17 +99,6 @@ impl TurnoutState {
         }
     }
 
-    /// Whether it is answered as thrown: a side that it moves to is not reached.
-    fn is_known_thrown(&self) -> bool
-        ensures { result ≡ is_known_thrown self.now }
-    {
-        if self.is_moving() {
-            !self.is_thrown
-        } else {
-            self.is_thrown
-        }
-    }
-
     /// Whether it has this switch, and feedback.
     fn is_with_feedback(&self, switch: u16) -> bool
         ensures { result ≡ is_with_feedback switch self.now }
@@ -117,11 +106,11 @@ impl TurnoutState {
         self.turnout.has_feedback && self.turnout.switch == switch
     }
 
-    /// Returns the answer to a request for its state.
+    /// Returns the answer to a request for its state: the side that it was asked for last.
     fn reply(&self) -> Msg
         ensures { result ≡ state_bytes self.now }
     {
-        let ack = if self.is_known_thrown() { 0 } else { CLOSED };
+        let ack = if self.is_thrown { 0 } else { CLOSED };
         to_msg(&Reply::LongAck {
             opc: OPC_SW_STATE % 128,
             ack,
