@@ -8,7 +8,7 @@ use Rattle.std.proofs.KnownBytes.{Appends-kept, Appends-nil, Appends-trans}
 use Rattle.bus_log.specs.LogQueues.{LogState, WritesQueued, is_reported}
 
 pub writes_none : (log : LogState) (held : Option (List ℕ)) → WritesQueued log log held held
-writes_none log held = ([], [], Appends-nil held, append-nil log.queued, inl (refl, refl), refl)
+writes_none log held = ([], [], Appends-nil held, append-nil log.queued, inl (refl, refl), refl, refl)
 
 -- a report is queued behind
 pub writes_reported : (start old new : LogState) (before held : Option (List ℕ)) → (is_reported old ≡ false → new ≡ old)
@@ -27,6 +27,7 @@ writes_reported start old new before held kept reported so_far = elim (cases_Boo
           | inr once ↦ inr (once.0, refl)
         ],
         so_far.5,
+        so_far.6,
       )
   | inr is ↦ subst (λ (log : LogState). WritesQueued start log before held) (sym (kept is)) so_far
 ]
@@ -44,11 +45,12 @@ writes_more start old new before held after front count is few writes removed so
       so_far.3 ∙ ap (λ (bytes : List ℕ). so_far.0 ++ bytes) split ∙ sym (append_assoc so_far.0 (take count front) (drop count old.queued)),
       so_far.4,
       so_far.5,
+      so_far.6,
     )
 
 -- nothing is
 pub writes_nothing : (start old : LogState) (before held after : Option (List ℕ)) → Keeps held after → WritesQueued start old before held → WritesQueued start old before after
-writes_nothing start old before held after kept so_far = (so_far.0, so_far.1, Appends-kept before held after so_far.0 so_far.2 kept, so_far.3, so_far.4, so_far.5)
+writes_nothing start old before held after kept so_far = (so_far.0, so_far.1, Appends-kept before held after so_far.0 so_far.2 kept, so_far.3, so_far.4, so_far.5, so_far.6)
 
 -- no byte is
 pub writes_zero : (start old : LogState) (before held after : Option (List ℕ)) (front : List ℕ) (count : ℕ) → count ≡ 0 → Appends held after (take count front) → WritesQueued start old before held → WritesQueued start old before after

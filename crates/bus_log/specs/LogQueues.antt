@@ -57,7 +57,7 @@ Reports old new text = ((text ≡ []) × (new.left_out ≡ old.left_out)) ⊎ ((
 -- report of lines left out was queued. The unfinished line stays.
 abbrev pub WritesQueued : (old new : LogState) → (before after : Option (List ℕ)) → Type 0
 WritesQueued old new before after =
-    (written text : List ℕ) × Appends before after written × (old.queued ++ text ≡ written ++ new.queued) × Reports old new text × (new.line ≡ old.line)
+    (written text : List ℕ) × Appends before after written × (old.queued ++ text ≡ written ++ new.queued) × Reports old new text × (new.line ≡ old.line) × (new.stamp ≡ old.stamp)
 
 -- Each write took bytes, until one took none, or no bytes are queued, or 64 writes were made. What
 -- each took is known if the output keeps the counts.
