@@ -1,5 +1,6 @@
 -- A layout with a track plan, for C.
-use Rattle.std.specs.Prelude.{ℕ, ◌&&◌, ◌==◌, Bool, if◌then◌else◌, is_some, List, [], ◌∷◌, map, Option, Some, None, Result, Ok, Err, option_map, slice_get}
+use Rattle.std.specs.Prelude.{ℕ, ◌≡◌, ◌⊎◌, ◌&&◌, ◌==◌, Bool, true, false, if◌then◌else◌, is_some, List, [], ◌∷◌, map, Option, Some, None, Result, Ok, Err, option_map, slice_get}
+use Rattle.station_core.specs.Seen.{is_line_count}
 use Rattle.ln_ops.specs.declared.sensor.SensorReport.{SensorReport}
 use Rattle.layout_core.specs.declared.node.Node.{Node}
 use Rattle.refresh_ring.specs.declared.pick.Power.{Power}
@@ -24,14 +25,19 @@ HasPlan lines (Err fault) plan layout = ⊥
 HasPlan lines (Ok entries) plan layout =
     (railway : RailwayState) × IsRailwayIn entries plan railway × IsNew lines (map spec_of entries) (Some railway) layout
 
-abbrev pub HasRosterFault : Result (List Entry) RosterFault → Type 0
-HasRosterFault (Ok entries) = ⊥
-HasRosterFault (Err fault) = Unit {0}
-
 -- the plan has a fault for the decoders of a roster
 abbrev pub HasPlanFault : Result (List Entry) RosterFault → (plan : List ℕ) → Type 0
 HasPlanFault (Ok entries) plan = (fault : PlanTextFault) × IsFaultIn entries plan fault
 HasPlanFault (Err fault) plan = ⊥
+
+-- What a status says, unless memory runs out: 4 there is a layout already, 2 the roster has a fault, 5 the plan has one, 1 the
+-- lines are not 1 to 8, in this order; 0 if nothing is wrong.
+abbrev pub IsPlanStatus : (made : Bool) → Result (List Entry) RosterFault → (plan : List ℕ) → (lines status : ℕ) → Type 0
+IsPlanStatus true roster plan lines status = status ≡ 4
+IsPlanStatus false (Err fault) plan lines status = status ≡ 2
+IsPlanStatus false (Ok entries) plan lines status =
+    (HasPlanFault (Ok entries) plan × (status ≡ 5))
+    ⊎ ((railway : RailwayState) × IsRailwayIn entries plan railway × (status ≡ (if is_line_count lines then 0 else 1)))
 
 -- the railway of a layout after so many microseconds in which its decoders do this
 abbrev pub railway_after : Option RailwayState → (micros : ℕ) → Power → List Node → Option RailwayState

@@ -19,7 +19,7 @@ ghost use Rattle.station_c.specs.Answer.{answered};
 ghost use Rattle.station_c.specs.Decoder.{nodes_of as decoders_of};
 ghost use Rattle.station_c.specs.Event.{event_of, is_one};
 ghost use Rattle.station_c.specs.Fault.{IsFault, verdict};
-ghost use Rattle.station_c.specs.Layout.{IsFaultyNode, IsNew, IsStatus, IsUnchanged, lines_of, nodes_of, refusal, specs_in, station_of};
+ghost use Rattle.station_c.specs.Layout.{IsFaultyNode, IsNew, IsStatus, IsUnchanged, lines_of, nodes_of, railway_of, refusal, specs_in, station_of};
 ghost use Rattle.station_c.specs.Motion.{driven};
 
 mod answer;
@@ -219,6 +219,7 @@ pub extern "C" fn station_byte(
     ensures answer { result ≡ true
         → answer.new ≡ answered (answer_to (station_of layout.old) (Event.Byte line byte)) }
     ensures nodes { result ≡ true → nodes_of layout.new ≡ nodes_of layout.old }
+    ensures railway { railway_of layout.new ≡ railway_of layout.old }
     ensures untouched { result ≡ false → IsUnchanged layout.old layout.new
         × (answer.new ≡ answer.old) }
 {
@@ -254,6 +255,7 @@ pub extern "C" fn station_turn(
     ensures nodes { result ≡ true
         → AfterEvent (Event.Turn missed) (answer_to (station_of layout.old) (Event.Turn missed))
         (nodes_of layout.old) (nodes_of layout.new) }
+    ensures railway { railway_of layout.new ≡ railway_of layout.old }
     ensures untouched { result ≡ false → IsUnchanged layout.old layout.new
         × (answer.new ≡ answer.old) }
 {
@@ -298,6 +300,7 @@ pub extern "C" fn station_run(
     ensures after_noise { result ≡ true
         → RunsAfterNoise (known_of (station_of layout.old)) (map event_of events.now)
         (nodes_of layout.old) (nodes_of layout.new) }
+    ensures railway { railway_of layout.new ≡ railway_of layout.old }
     ensures untouched { result ≡ false → IsUnchanged layout.old layout.new
         × (answers.new ≡ answers.old) }
 {

@@ -1,9 +1,8 @@
 //! Layouts with a track plan: trains, and sensors that report where they are.
-ghost use Rattle.std.specs.Prelude.{◌≡◌, ◌≢◌, ◌≤◌, ◌&&◌, Ok, Some, false, is_some, true};
-ghost use Rattle.station_core.specs.Seen.{is_line_count};
+ghost use Rattle.std.specs.Prelude.{◌≡◌, ◌≢◌, ◌⊎◌, ◌&&◌, Ok, Some, false, is_some, true};
 ghost use Rattle.roster.specs.Format.{roster_in};
 ghost use Rattle.station_c.specs.Layout.{IsUnchanged, nodes_of, railway_of, station_of};
-ghost use Rattle.station_c.specs.Plan.{HasPlan, HasPlanFault, HasRosterFault, has_railway, level_in, railway_after, sensed_by, train_of};
+ghost use Rattle.station_c.specs.Plan.{HasPlan, IsPlanStatus, has_railway, level_in, railway_after, sensed_by, train_of};
 
 use crate::contents::Contents;
 use crate::layout::Layout;
@@ -17,8 +16,9 @@ use std::alloc::Global;
 /// Makes a layout with `lines` lines, the decoders of a roster, and the trains and sensors of a track
 /// plan; there must be none yet.
 ///
-/// Returns 0 if it was made. Otherwise the layout is unchanged: 4 if there is one already, 2 if the
-/// roster has a fault, 5 if the plan has one, 1 unless `lines` is 1 to 8, and 3 if out of memory.
+/// Returns 0 if it was made. Otherwise the layout is unchanged: 4 if there is one already, else 2 if
+/// the roster has a fault, else 5 if the plan has one, else 1 unless `lines` is 1 to 8; 3 if out of
+/// memory.
 #[unsafe(no_mangle)]
 pub extern "C" fn station_plan(
     alloc: Global,
@@ -27,14 +27,10 @@ pub extern "C" fn station_plan(
     roster: &[u8],
     plan: &[u8],
 ) -> u8
+    ensures status { IsPlanStatus layout.old.made (roster_in roster.now) plan.now lines result
+        ⊎ ((layout.old.made ≡ false) × (result ≡ 3)) }
     ensures made { result ≡ 0 → HasPlan lines (roster_in roster.now) plan.now layout.new }
     ensures untouched { result ≢ 0 → layout.new ≡ layout.old }
-    ensures lines { result ≡ 1 → is_line_count lines ≡ false }
-    ensures roster { result ≡ 2 → HasRosterFault (roster_in roster.now) }
-    ensures already { layout.old.made ≡ true → result ≡ 4 }
-    ensures none { result ≡ 4 → layout.old.made ≡ true }
-    ensures plan { result ≡ 5 → HasPlanFault (roster_in roster.now) plan.now }
-    ensures most { result ≤ 5 }
 {
     if layout.made {
         return ALREADY_MADE;
@@ -49,12 +45,9 @@ pub extern "C" fn station_plan(
 /// The same with a roster that was read.
 fn make_planned(alloc: Global, layout: &mut Layout, lines: u8, roster: &Roster, plan: &[u8]) -> u8
     requires none { layout.old.made ≡ false }
+    ensures status { IsPlanStatus false (Ok roster.now) plan.now lines result ⊎ (result ≡ 3) }
     ensures made { result ≡ 0 → HasPlan lines (Ok roster.now) plan.now layout.new }
     ensures untouched { result ≢ 0 → layout.new ≡ layout.old }
-    ensures lines { result ≡ 1 → is_line_count lines ≡ false }
-    ensures plan { result ≡ 5 → HasPlanFault (Ok roster.now) plan.now }
-    ensures roster { (result ≡ 2 → ⊥) × (result ≡ 4 → ⊥) }
-    ensures most { result ≤ 5 }
 {
     match read_railway(alloc, plan, roster) {
         Ok(railway) => make(alloc, layout, lines, roster.nodes(), Some(railway)),
