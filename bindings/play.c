@@ -6,7 +6,9 @@
  *
  * play texts: prints what it says of each status, and of each fault of a roster.
  *
- * play messages: prints one message of each kind, and what is refused. */
+ * play messages: prints one message of each kind, and what is refused.
+ *
+ * play plan ROSTER PLAN: drives address 3 over a track plan, and prints where train 0 is and which sensors are high. */
 #include <stdio.h>
 #include <stdlib.h>
 #include <string.h>

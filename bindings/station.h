@@ -170,15 +170,16 @@ bool station_running(station_layout *layout, size_t i, station_motion *motion);
 bool station_outputs(station_layout *layout, size_t i, uint8_t *outputs);
 
 /* The same as station_read, with the trains and sensors of a track plan, a text in TOML as lbserver --plan reads it. If
- * the plan has a fault, the function returns STATION_BAD_PLAN; lbserver says which.
+ * the roster has no fault and the plan has one, the function returns STATION_BAD_PLAN; lbserver says which.
  * Owed: `roster` points to `roster_size` bytes and `plan` to `plan_size`, and a layout that was made is ended once, by
  * station_free. */
 uint8_t station_plan(station_layout *layout, uint8_t lines, const uint8_t *roster, size_t roster_size,
     const uint8_t *plan, size_t plan_size);
 
 /* Lets `micros` microseconds pass in which the decoders do what they do now: while the track has power trains run and
- * turnouts move. No other function takes time; a turn lasts 5,796 to 10,740 microseconds. Returns false if there is no
- * layout with a track plan.
+ * turnouts move. No other function takes time or looks at the outputs of turnouts. So call it after each turn, with the
+ * time of that turn, 5,796 microseconds for an idle packet and at most 10,740, or with 0: an output that goes on and off
+ * between two calls moves nothing. Returns false if there is no layout with a track plan.
  * Owed: nothing but the above. */
 bool station_elapse(station_layout *layout, uint32_t micros);
 

@@ -52,11 +52,12 @@ STORY = [
     ([*turned(2, False), "FAIL turnout 2", "TURNS 100"], [THROWN_2]),
     ([*turned(2, True), "TURNS 100"], []),
     (["FAIL none", "TURNS 100"], []),
-    # While it moves the answer is the side that it moves from.
+    # While it moves the answer is the side that it moves to, also if it is asked back.
     (send(STATE_2, STATE_2040), [IS_THROWN, IS_CLOSED]),
-    ([*turned(2, True), *send(STATE_2)], [IS_THROWN]),
+    ([*turned(2, True), *send(STATE_2)], [IS_CLOSED]),
     (["TURNS 100", *send(STATE_2)], [CLOSED_2, IS_CLOSED]),
-    ([*turned(2, False), *send(STATE_2)], [IS_CLOSED]),
+    ([*turned(2, False), *send(STATE_2)], [IS_THROWN]),
+    ([*turned(2, True), *send(STATE_2)], [IS_CLOSED]),
 ]
 
 

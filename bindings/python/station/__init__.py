@@ -7,7 +7,7 @@ for a test, and has a client of it; it needs no library. docs/LIBRARY.md is the 
 from .decoders import AccessoryDecoder, Decoder, LocoDecoder, Motion, Outputs, Roster, roster_text
 from .errors import ClosedError, LibraryError, RefusedError, RosterError, StationError
 from .layout import Answer, Byte, Event, Noise, Station, Turn
-from .messages import Acknowledge, Reply, SensorReport, SlotData, message_bytes, message_hex
+from .messages import Acknowledge, Reply, SensorReport, SlotData, TurnoutSide, message_bytes, message_hex
 from .throttle import Loco, Throttle, Turnout
 from .trains import Train
 
@@ -38,6 +38,7 @@ __all__ = [
     "Train",
     "Turn",
     "Turnout",
+    "TurnoutSide",
     "message_bytes",
     "message_hex",
     "roster_text",

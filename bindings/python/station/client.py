@@ -205,8 +205,8 @@ class Client(Throttle):
     def send(self, *body: int) -> Reply | None:
         """Sends a message: `body` is all of it but the check byte. Returns the reply, or None if there is none.
 
-        A switch request (B0) has a reply only if it is refused. A read of slot 1 is sent after it, whose reply shows
-        that there was none.
+        A switch request (B0) has a reply only if it is refused, a request for the state of a turnout (BC) only if the
+        turnout has feedback. A read of slot 1 is sent after it, whose reply shows that there was none.
         """
         replies = has_reply(checked_message(body))
         self.transmit(*body)

@@ -58,7 +58,14 @@ class Acknowledge:
         return _REASONS.get(self.opcode, "the station refused it")
 
 
-Reply = Union[SlotData, Acknowledge]
+@dataclass(frozen=True)
+class TurnoutSide:
+    """The side that a turnout with feedback was asked for last (OPC_LONG_ACK to OPC_SW_STATE)."""
+
+    thrown: bool
+
+
+Reply = Union[SlotData, Acknowledge, TurnoutSide]
 
 
 @dataclass(frozen=True)
@@ -103,8 +110,8 @@ def checked_message(body: Iterable[int]) -> bytes:
 
 
 def has_reply(message: bytes) -> bool | None:
-    """Whether the station replies to a message: always, never, or None if it replies only to refuse it."""
-    if message[0] == 0xB0:
+    """Whether a message is answered: always, never, or None for a refused switch request or a turnout with feedback alone."""
+    if message[0] in (0xB0, 0xBC):
         return None
     if message[0] in (0xBA, 0xBB, 0xBD, 0xBF) or message[:2] == b"\xef\x0e":
         return True
@@ -113,6 +120,8 @@ def has_reply(message: bytes) -> bool | None:
 
 def reply_of(message: bytes) -> Reply:
     """Reads a reply of a station, OPC_SL_RD_DATA or OPC_LONG_ACK."""
+    if message[:2] == b"\xb4\x3c":
+        return TurnoutSide(thrown=message[2] == 0)
     if message[0] == 0xB4:
         # The reply to OPC_IMM_PACKET names 7D.
         return Acknowledge(0xED if message[1] == 0x7D else message[1] | 0x80, message[2] == 0x7F)

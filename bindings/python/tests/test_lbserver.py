@@ -32,6 +32,7 @@ from station import (  # noqa: E402
     SlotData,
     StationError,
     Train,
+    TurnoutSide,
     message_bytes,
     message_hex,
 )
@@ -130,6 +131,7 @@ class TestLines(unittest.TestCase):
             ("BB 01 00 45", True),
             ("BD 00 30 72", True),
             ("B0 04 10 5B", None),
+            ("BC 01 00 42", None),
             ("A0 01 40 1E", False),
             ("B5 01 13 58", False),
             ("ED 0B 7F 23 22 03 21 00 00 00 45", True),
@@ -781,6 +783,16 @@ class TestServer(unittest.TestCase):
                 server.fail_sensor(6)
             with self.assertRaisesRegex(StationError, "FAIL turnout 3: no such turnout"):
                 server.fail_turnout(3)
+
+    def test_turnouts_with_feedback(self):
+        plan = OVAL.read_text().replace('thrown = "siding.b"', 'thrown = "siding.b"\nfeedback = true')
+        with Server("--turns", "0", roster=OVAL_ROSTER, plan=plan) as server, server.client() as client:
+            server.power_on()
+            # Turnout 1 has none.
+            self.assertEqual([client.send(0xBC, 1, 0), client.send(0xBC, 0, 0)], [TurnoutSide(thrown=False), None])
+            server.turnout(2).throw()
+            server.turns(20)
+            self.assertEqual(client.send(0xBC, 1, 0), TurnoutSide(thrown=True))
 
     def test_waits_end(self):
         with Server(roster=ROSTER) as server:
