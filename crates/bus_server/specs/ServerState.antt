@@ -88,7 +88,7 @@ IsDrawn (Turn missed) bus nodes old new = IsDraw nodes missed old new
 IsDrawn other bus nodes old new = new ≡ old
 
 -- the outcome of an event, with the answer where a client puts a train on the track or arranges the
--- programming track, and the reply of the programmer
+-- devices, and the reply of the programmer or of a turnout with feedback
 abbrev pub outcome_in : ServerState → Event → Outcome
 outcome_in state event = programmed state.programming state.railway (answered state.names state.railway (outcome_of state.bus event))
 

@@ -68,10 +68,10 @@ impl Sensors {
         self.unreported = DeviceReports::new(reports, ends, decoder);
     }
 
-    /// Does what an outcome of the bus asks of the devices: a report of each sensor, to put a train on
-    /// the track, to arrange the devices, or something of the programmer. What sensors report of it is
-    /// due. Returns the outcome, with the answer to a client that asks to put a train or to
-    /// arrange, and the programmer's reply.
+    /// Does what an outcome of the bus asks of the devices: reports of all sensors and turnouts with
+    /// feedback, to put a train on the track, to arrange the devices, or something of the programmer.
+    /// What they report of it is due. Returns the outcome, with the answer to a client that asks to
+    /// put a train or to arrange, and the reply of the programmer or of a turnout.
     pub(crate) fn answer(&mut self, outcome: Outcome, nodes: &NamedNodes) -> Outcome
         ensures railway { self.new.railway
             ≡ railway_requested (names_of nodes.now.items) outcome self.old.railway }
