@@ -38,7 +38,7 @@ drawn-append : (events later : List Event) (bus : BusState) (nodes : ℕ) (old m
 drawn-append [] later bus nodes old mid new h k = subst (λ (losses : Losses). AreDrawn later bus nodes losses new) h k
 drawn-append (event ∷ events) later bus nodes old mid new h k = (h.0, h.1, drawn-append events later (after_event bus event) nodes h.0 mid new h.2 k)
 
-legal-append : (these those : List Event) → AreEvents these → AreEvents those → AreEvents (these ++ those)
+pub legal-append : (these those : List Event) → AreEvents these → AreEvents those → AreEvents (these ++ those)
 legal-append [] those h k = k
 legal-append (event ∷ these) those h k =
     let p = and_parts (is_event event) (list_all is_event these) h in

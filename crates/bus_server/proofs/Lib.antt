@@ -14,6 +14,7 @@ pub mod Missed
 pub mod Missing
 pub mod Naming
 pub mod Nothings
+pub mod OnLayout
 pub mod Ordering
 pub mod Placing
 pub mod Repeating

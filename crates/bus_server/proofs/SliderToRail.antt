@@ -4,12 +4,14 @@ use Rattle.std.proofs.lemmas.List.{append-nil}
 use Rattle.std.proofs.lemmas.Option.{slice_get-get_or}
 use Rattle.std.specs.List.{slice_index_or}
 use Rattle.std.specs.Option.{option_and_then}
-use Rattle.std.specs.Prelude.{IsTrue}
+use Rattle.std.proofs.lemmas.Bool.{and_from}
+use Rattle.std.specs.Prelude.{IsTrue, true}
 use Rattle.refresh_ring.specs.declared.pick.Power.{Power}
 use Rattle.refresh_ring.specs.declared.pick.Power.TheVariants.{Off, Running as PowerRuns}
 use Rattle.station_core.specs.Moments.{IsLive}
 use Rattle.station_core.specs.Powered.{HasDesk}
 use Rattle.decoder_node.specs.declared.running.Running.{Running}
+use Rattle.layout_core.specs.declared.event.Event.{Event as LayoutEvent}
 use Rattle.layout_core.specs.declared.node.Node.{Node}
 use Rattle.layout_core.specs.declared.node.Node.TheVariants.{Loco}
 use Rattle.layout_core.specs.Nodes.{running_of}
@@ -27,16 +29,17 @@ use Rattle.bus.specs.declared.event.Event.{Event}
 use Rattle.bus.specs.declared.event.Event.TheVariants.{Connects, Receives, Disconnects, Reports, Programs, Elapses, Turn}
 use Rattle.bus.specs.declared.outcome.Outcome.{Outcome}
 use Rattle.bus.specs.declared.outcome.Outcome.TheVariants.{Nothing, Connected, Disconnected, Rejected, Sent, Reported, Programmed, TurnsRequested, StatesRequested, PlaceRequested, Placed, DeviceRequested, DeviceAnswered, TurnBegan}
-use Rattle.bus.specs.Bus.{AreEvents, BusState, after_event, outcome_of}
+use Rattle.bus.specs.Bus.{AreEvents, BusState, after_event, after_events, is_event, outcome_of}
 use Rattle.bus.specs.Cycle.{Assignment, IsHeard, RunsOnInTime, wanted_of}
 use Rattle.bus.specs.Invariant.{IsInvariant}
-use Rattle.bus.specs.Layout.{layout_events}
+use Rattle.bus.specs.Layout.{layout_event, layout_events}
 use Rattle.bus_server.specs.Failures.{happened_to, happening_by}
-use Rattle.bus_server.specs.Running.{IsEventRun}
+use Rattle.bus_server.specs.Observations.{Observation}
 use Rattle.bus_server.specs.Sensors.{power_of, railway_after, railway_elapsed, railway_requested, running_in}
-use Rattle.bus_server.specs.ServerState.{LoggedEvent, ServerState, events_of}
-use Rattle.bus_server.specs.SliderToRail.{IsLeftAlone, RunsLeavingAlone, SliderReachesRail, happening_in, requested_of, run_time, run_time_in}
-use Rattle.bus_server.proofs.Courses.{Laws, course_more, happened_course}
+use Rattle.bus_server.specs.ServerState.{LoggedEvent, RunsEvent, ServerState, events_of}
+use Rattle.bus_server.specs.SliderToRail.{HasSameLayout, IsLeftAlone, RoundsReachRail, RunsLeavingAlone, SliderReachesRail, happening_in, requested_of, run_time, run_time_in}
+use Rattle.bus_server.proofs.Courses.{Laws, after-append, legal-append}
+use Rattle.bus_server.proofs.OnLayout.{rounds_leave_alone}
 
 -- What an event does to the railway is what happens to it.
 
@@ -167,9 +170,35 @@ joined train decoder running r here more mid new (Some happening) same alone tak
 not-off : PowerRuns ≡ Off → ⊥
 not-off h = cc
 
+-- The bus and the decoders after events, whatever else the server has done.
+
+record HasHeard (events : List Event) (old new : ServerState) : Type 0 where
+  legal : AreEvents events
+  bus : new.bus ≡ after_events old.bus events
+  nodes : HaveHeard old.bus.station (layout_events old.bus events) old.nodes new.nodes
+
+heard_still : (events : List Event) (old mid new : ServerState) → HasHeard events old mid → HasSameLayout mid new → HasHeard events old new
+heard_still events old mid new h same = record {
+  legal = h.legal;
+  bus = same.bus ∙ h.bus;
+  nodes = subst (λ (nodes : List Node). HaveHeard old.bus.station (layout_events old.bus events) old.nodes nodes) (sym same.nodes) h.nodes;
+}
+
+heard_one : Laws → (events : List Event) (event : Event) (observed : Observation) (old mid new : ServerState) → IsInvariant old.bus → HasHeard events old mid → RunsEvent event observed mid new
+    → HasHeard (events ++ event ∷ []) old new
+heard_one laws events event observed old mid new kept h step =
+    let one : HaveHeard mid.bus.station (layout_events mid.bus (event ∷ [])) mid.nodes new.nodes =
+    subst (λ (heard : List LayoutEvent). HaveHeard mid.bus.station heard mid.nodes new.nodes) (sym (append-nil (layout_event mid.bus event))) step.nodes in
+    record {
+      legal = legal-append events (event ∷ []) h.legal (and_from (is_event event) true step.legal refl);
+      bus = step.bus ∙ ap (λ (bus : BusState). after_event bus event) h.bus ∙ sym (after-append events (event ∷ []) old.bus);
+      nodes = laws.more old.bus events (event ∷ []) old.nodes mid.nodes new.nodes kept h.legal h.nodes
+          (subst (λ (bus : BusState). HaveHeard bus.station (layout_events bus (event ∷ [])) mid.nodes new.nodes) h.bus one);
+    }
+
 module _ (laws : Laws) (goes_on : RunsOn) (so_far : SoFar) (asked : Assignment) (before cycle : List Event) (start : ServerState) (none : Node) (kept : IsInvariant start.bus) (desk : HasDesk start.bus.station.powered)
     (below : asked.node < length start.nodes) (stands : slice_index_or start.nodes asked.node none ≡ Loco asked.loco) where
-  drives : (later : List Event) (s : ServerState) → IsHeard asked start.bus before cycle later → IsEventRun (before ++ (cycle ++ later)) start s → Drives asked.node (wanted_of asked) s
+  drives : (later : List Event) (s : ServerState) → IsHeard asked start.bus before cycle later → HasHeard (before ++ (cycle ++ later)) start s → Drives asked.node (wanted_of asked) s
   drives later s heard run =
       let events : List Event = before ++ (cycle ++ later) in
       let runs = goes_on start.bus events start.nodes s.nodes kept run.legal desk run.nodes asked before cycle later none refl below stands heard in
@@ -180,33 +209,39 @@ module _ (laws : Laws) (goes_on : RunsOn) (so_far : SoFar) (asked : Assignment) 
         power = λ off. not-off (sym live.running ∙ off);
       }
 
-  goes : (train : ℕ) (later : List LoggedEvent) (so : List Event) (s new : ServerState) (r : RailwayState) → IsHeard asked start.bus before cycle (so ++ events_of later) → IsEventRun (before ++ (cycle ++ so)) start s
+  goes : (train : ℕ) (later : List LoggedEvent) (so : List Event) (s new : ServerState) (r : RailwayState) → IsHeard asked start.bus before cycle (so ++ events_of later) → HasHeard (before ++ (cycle ++ so)) start s
       → s.railway ≡ Some r → RunsLeavingAlone train later s new → Ran train asked.node (wanted_of asked) r (run_time_in s.bus (events_of later)) new
-  goes train [] so s new r heard run has runs = record { happenings = []; there = ap (λ (state : ServerState). state.railway) runs ∙ has; alone = tt; driven = tt; time = refl }
+  goes train [] so s new r heard run has runs = record { happenings = []; there = runs.railway ∙ has; alone = tt; driven = tt; time = refl }
   goes train (one ∷ more) so s new r heard run has runs =
-      let mid : ServerState = runs.0 in
-      let step = runs.1 in
+      let begun : ServerState = runs.0 in
+      let mid : ServerState = runs.1 in
+      let layout = runs.2 in
+      let step = runs.3 in
       let on : List Event = so ++ one.event ∷ [] in
       let parts : so ++ (one.event ∷ events_of more) ≡ on ++ events_of more = sym (append_assoc so (one.event ∷ []) (events_of more)) in
       let heard_then : IsHeard asked start.bus before cycle (on ++ events_of more) = subst (λ (later : List Event). IsHeard asked start.bus before cycle later) parts heard in
       let whole : (before ++ (cycle ++ so)) ++ one.event ∷ [] ≡ before ++ (cycle ++ on) = append_assoc before (cycle ++ so) (one.event ∷ []) ∙ ap (λ (events : List Event). before ++ events) (append_assoc cycle so (one.event ∷ [])) in
-      let run_then : IsEventRun (before ++ (cycle ++ on)) start mid =
-      subst (λ (events : List Event). IsEventRun events start mid) whole
-      (course_more laws (before ++ (cycle ++ so)) (one.event ∷ []) start s mid kept run (λ k. happened_course laws (one ∷ []) s mid k (mid, step, refl))) in
-      let nodes : List Node = running_in one.event s.nodes mid.nodes in
-      let here = drives so s (so_far asked start.bus before cycle so (one.event ∷ events_of more) heard) run in
+      let run_begun : HasHeard (before ++ (cycle ++ so)) start begun = heard_still (before ++ (cycle ++ so)) start s begun run layout in
+      let has_begun : begun.railway ≡ Some r = layout.railway ∙ has in
+      let run_then : HasHeard (before ++ (cycle ++ on)) start mid =
+      subst (λ (events : List Event). HasHeard events start mid) whole (heard_one laws (before ++ (cycle ++ so)) one.event one.observed start begun mid kept run_begun step) in
+      let nodes : List Node = running_in one.event begun.nodes mid.nodes in
+      let here = drives so begun (so_far asked start.bus before cycle so (one.event ∷ events_of more) heard) run_begun in
       let behind = drives on mid (so_far asked start.bus before cycle on (events_of more) heard_then) run_then in
-      let same : mid.railway ≡ happened_to (happening_in s nodes one.event) (Some r) =
-      step.railway ∙ after-is s nodes one.event ∙ ap (λ (o : Option RailwayState). happened_to (happening_in s nodes one.event) o) has in
-      joined train asked.node (wanted_of asked) r (run_time s.bus one.event) (run_time_in (after_event s.bus one.event) (events_of more)) mid new (happening_in s nodes one.event) same
-      (subst (λ (o : Option RailwayState). IsLeftAlone train (happening_in s nodes one.event) o) has runs.2)
-      (takes asked.node (wanted_of asked) s mid one.event here behind)
-      (λ now is. subst (λ (bus : BusState). Ran train asked.node (wanted_of asked) now (run_time_in bus (events_of more)) new) step.bus (goes train more on mid new now heard_then run_then is runs.3))
+      let same : mid.railway ≡ happened_to (happening_in begun nodes one.event) (Some r) =
+      step.railway ∙ after-is begun nodes one.event ∙ ap (λ (o : Option RailwayState). happened_to (happening_in begun nodes one.event) o) has_begun in
+      let ran : Ran train asked.node (wanted_of asked) r (run_time_in begun.bus (events_of (one ∷ more))) new =
+      joined train asked.node (wanted_of asked) r (run_time begun.bus one.event) (run_time_in (after_event begun.bus one.event) (events_of more)) mid new (happening_in begun nodes one.event) same
+      (subst (λ (o : Option RailwayState). IsLeftAlone train (happening_in begun nodes one.event) o) has_begun runs.4)
+      (takes asked.node (wanted_of asked) begun mid one.event here behind)
+      (λ now is. subst (λ (bus : BusState). Ran train asked.node (wanted_of asked) now (run_time_in bus (events_of more)) new) step.bus (goes train more on mid new now heard_then run_then is runs.5)) in
+      subst (λ (bus : BusState). Ran train asked.node (wanted_of asked) r (run_time_in bus (events_of (one ∷ more))) new) layout.bus ran
 
 pub slider_reaches_rail : Laws → RunsOn → SoFar → RunsAsDriven → SliderReachesRail
 slider_reaches_rail laws goes_on so_far as_driven asked before cycle later start settled new none kept desk below stands heard run train no_train r has railway within own runs =
+    let so_far_heard : HasHeard (before ++ cycle) start settled = record { legal = run.legal; bus = run.bus; nodes = run.nodes } in
     let none_yet : cycle ++ [] ≡ cycle = append-nil cycle in
-    let ran = goes laws goes_on so_far asked before cycle start none kept desk below stands train later [] settled new r heard (subst (λ (events : List Event). IsEventRun (before ++ events) start settled) (sym none_yet) run) has runs in
+    let ran = goes laws goes_on so_far asked before cycle start none kept desk below stands train later [] settled new r heard (subst (λ (events : List Event). HasHeard (before ++ events) start settled) (sym none_yet) so_far_heard) has runs in
     let t : TrainState = slice_index_or r.trains train no_train in
     let now : RailwayState = after_all r ran.happenings in (
       now,
@@ -215,3 +250,7 @@ slider_reaches_rail laws goes_on so_far as_driven asked before cycle later start
           (as_driven r ran.happenings train no_train (wanted_of asked) railway within ran.alone
           (subst (λ (decoder : ℕ). AreDrivenBy decoder (wanted_of asked) ran.happenings) (sym own) ran.driven)),
     )
+
+pub rounds_reach_rail : SliderReachesRail → RoundsReachRail
+rounds_reach_rail reaches asked before cycle later start settled new none kept desk below stands heard run train no_train r has railway within own runs =
+    reaches asked before cycle later start settled new none kept desk below stands heard run train no_train r has railway within own (rounds_leave_alone train later settled new runs)

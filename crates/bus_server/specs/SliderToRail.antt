@@ -18,7 +18,7 @@ use Rattle.bus.specs.Cycle.{Assignment, IsHeard, wanted_of}
 use Rattle.bus.specs.Invariant.{IsInvariant}
 use Rattle.bus_server.specs.Failures.{happening_by}
 use Rattle.bus_server.specs.Placement.{places}
-use Rattle.bus_server.specs.Running.{IsEventRun}
+use Rattle.bus_server.specs.Running.{IsEventRun, Round, RunsRounds, logged_in}
 use Rattle.bus_server.specs.Sensors.{next_turn, power_of, running_in}
 use Rattle.bus_server.specs.ServerState.{LoggedEvent, RunsEvent, ServerState, events_of}
 
@@ -44,14 +44,41 @@ abbrev pub IsLeftAlone : (train : ℕ) → Option Happening → Option RailwaySt
 IsLeftAlone train (Some happening) (Some railway) = LeavesAlone train railway.network happening
 IsLeftAlone train happening other = Unit {0}
 
+-- an event leaves it alone
+abbrev pub IsLeftAloneIn : (train : ℕ) → Event → (old new : ServerState) → Type 0
+IsLeftAloneIn train event old new =
+    IsLeftAlone train (happening_in old (running_in event old.nodes new.nodes) event) old.railway
+
+-- The layout of a server stays the same: its bus, the decoders, their names and the railway.
+pub record HasSameLayout (old new : ServerState) : Type 0 where
+  pub bus : new.bus ≡ old.bus
+  pub nodes : new.nodes ≡ old.nodes
+  pub names : new.names ≡ old.names
+  pub railway : new.railway ≡ old.railway
+
 -- Events run, and leave a train alone: no client places it, and the turnouts stay as they lie.
+-- Between them the server goes on with what is not of its layout: queues, answers, what is due.
 abbrev pub RunsLeavingAlone : (train : ℕ) → List LoggedEvent → (old new : ServerState) → Type 0
-RunsLeavingAlone train [] old new = new ≡ old
+RunsLeavingAlone train [] old new = HasSameLayout old new
 RunsLeavingAlone train (one ∷ more) old new =
-    (mid : ServerState) × RunsEvent one.event one.observed old mid
-    × IsLeftAlone train
-    (happening_in old (running_in one.event old.nodes mid.nodes) one.event) old.railway
+    (begun mid : ServerState) × HasSameLayout old begun
+    × RunsEvent one.event one.observed begun mid × IsLeftAloneIn train one.event begun mid
     × RunsLeavingAlone train more mid new
+
+-- events leave a train alone, however they run from here
+abbrev pub StaysLeftAlone : (train : ℕ) → List LoggedEvent → (old : ServerState) → Type 0
+StaysLeftAlone train [] old = Unit {0}
+StaysLeftAlone train (one ∷ more) old =
+    (begun mid : ServerState) → HasSameLayout old begun
+    → RunsEvent one.event one.observed begun mid
+    → IsLeftAloneIn train one.event begun mid × StaysLeftAlone train more mid
+
+-- these are the events of rounds of a server, which leave a train alone
+abbrev pub RunsRoundsLeavingAlone : (train : ℕ) → List LoggedEvent → (old new : ServerState)
+    → Type 0
+RunsRoundsLeavingAlone train applied old new =
+    (most : ℕ) × (rounds : List Round) × (applied ≡ logged_in rounds)
+    × RunsRounds most rounds old new × StaysLeftAlone train applied old
 
 -- the microseconds that trains run in events: in a turn that is run by itself, all of it
 abbrev pub run_time : BusState → Event → ℕ
@@ -67,8 +94,9 @@ run_time_in bus (event ∷ events) = run_time bus event + run_time_in (after_eve
 -- the same and its train is left alone, the train has run as the slot asks for exactly the time since
 -- then: without momentum as far as its speed times the time, until the track stops it; with momentum
 -- it has its speed after its ramp.
-abbrev pub SliderReachesRail : Type 0
-SliderReachesRail =
+abbrev pub ReachesRail
+    : (RunsAlone : (train : ℕ) → List LoggedEvent → (old new : ServerState) → Type 0) → Type 0
+ReachesRail RunsAlone =
     (asked : Assignment) (before cycle : List Event) (later : List LoggedEvent)
     (start settled new : ServerState) (none : Node)
     → IsInvariant start.bus → HasDesk start.bus.station.powered
@@ -80,7 +108,15 @@ SliderReachesRail =
     → settled.railway ≡ Some railway → IsTrue (is_railway railway)
     → train < length railway.trains
     → (slice_index_or railway.trains train no_train).decoder ≡ asked.node
-    → RunsLeavingAlone train later settled new
+    → RunsAlone train later settled new
     → (now : RailwayState) × (new.railway ≡ Some now)
     × HasRun railway.network (wanted_of asked) (run_time_in settled.bus (events_of later))
     (slice_index_or railway.trains train no_train) (slice_index_or now.trains train no_train)
+
+-- by events of the layout, whatever else the server does between them
+abbrev pub SliderReachesRail : Type 0
+SliderReachesRail = ReachesRail RunsLeavingAlone
+
+-- by the rounds of a server, whatever they are
+abbrev pub RoundsReachRail : Type 0
+RoundsReachRail = ReachesRail RunsRoundsLeavingAlone

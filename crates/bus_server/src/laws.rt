@@ -6,7 +6,7 @@ ghost use Rattle.bus_server.specs.KnownTurnouts.{TurnoutBecomesKnown, TurnoutSta
 ghost use Rattle.bus_server.specs.MainTrack.{MainTrackIsApart};
 ghost use Rattle.bus_server.specs.Repeats.{OrderDecides, RunsRepeat, TurnsFollowMessages};
 ghost use Rattle.bus_server.specs.Running.{NoneMisses, RoundsAreARun, TimeIsRead};
-ghost use Rattle.bus_server.specs.SliderToRail.{SliderReachesRail};
+ghost use Rattle.bus_server.specs.SliderToRail.{RoundsReachRail, SliderReachesRail};
 
 /// Whatever rounds a run has had, also one that goes on: their events, in order, are what the bus ran, and the headline in time
 /// holds of them.
@@ -19,9 +19,11 @@ pub fn rounds_are_a_run()
 }
 
 /// From slider to rail: after a cycle as the headline in time says it, while the slot says the same
-/// and the turnouts stay, a train has run as the slot asks for exactly the time since then.
+/// and the turnouts stay, a train has run as the slot asks for exactly the time since then: whatever
+/// the server does between the events of the layout, and whatever rounds a run has.
 pub fn slider_reaches_rail()
-    ensures { SliderReachesRail }
+    ensures events { SliderReachesRail }
+    ensures rounds { RoundsReachRail }
 {
     bus::laws::events_are_the_layout();
     layout_core::laws::events_add_up();
