@@ -169,8 +169,9 @@ bool station_running(station_layout *layout, size_t i, station_motion *motion);
  * Owed: nothing but the above. */
 bool station_outputs(station_layout *layout, size_t i, uint8_t *outputs);
 
-/* The same as station_read, with the trains and sensors of a track plan, a text in TOML as lbserver --plan reads it. If
- * the roster has no fault and the plan has one, the function returns STATION_BAD_PLAN; lbserver says which.
+/* The same as station_read, with the trains and sensors of a track plan, a text in TOML as lbserver --plan reads it, but of
+ * any length; its key feedback has no effect. If the roster has no fault and the plan has one, the function returns
+ * STATION_BAD_PLAN; lbserver says which.
  * Owed: `roster` points to `roster_size` bytes and `plan` to `plan_size`, and a layout that was made is ended once, by
  * station_free. */
 uint8_t station_plan(station_layout *layout, uint8_t lines, const uint8_t *roster, size_t roster_size,

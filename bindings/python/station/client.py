@@ -255,11 +255,14 @@ class Client(Throttle):
         return dict(self._states("TRAINS", read_train_line))
 
     def turnouts(self) -> dict[int, bool | None]:
-        """Whether the turnouts of the plan lie thrown now, by their switches; None of one that moves.
+        """Whether the turnouts of the plan lie thrown now, by their switches: None while one of a switch moves.
 
         Only `lbserver` answers this request.
         """
-        return dict(self._states("TURNOUTS", read_turnout_line))
+        sides: dict[int, bool | None] = {}
+        for switch, side in self._states("TURNOUTS", read_turnout_line):
+            sides[switch] = side if sides.get(switch, side) == side else None
+        return sides
 
     def _states(self, request: str, read: Callable[[str], tuple[Key, Value] | None]) -> Iterator[tuple[Key, Value]]:
         """What the lines of an answer tell."""

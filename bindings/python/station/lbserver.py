@@ -27,7 +27,7 @@ from typing import Any, TypeVar, Union
 from .client import LAST_SENSOR, MOST_TURNS, Client, connect
 from .decoders import HasNodes, Motion, Roster, State, in_range, read_roster, roster_text
 from .errors import ClosedError, StationError
-from .log import Conflict, Derailment, Log, kinds_in, option, sensors_at_start
+from .log import Conflict, Derailment, Log, kinds_in, option, sensors_at_start, without_time
 from .messages import Reply, SensorReport
 from .process import Process, find_page, find_program, free_port, start
 from .programmer import Programmer
@@ -260,6 +260,7 @@ class Server(Throttle, HasNodes):
     def wait_for(self, what: Condition, seconds: float | None = None, since: int = 0) -> Any:
         """Waits for a whole line of the log, a line in which a pattern is found, or a function that returns true.
 
+        Lines are searched as printed, and without the times of `--times`.
         Lines from before the call count too, unless they are before the mark `since`. Returns the line, the match or the
         value. Raises TimeoutError, with the end of the log, if the time is over or the program has ended.
         """
@@ -317,11 +318,11 @@ class Server(Throttle, HasNodes):
         return found
 
     def _find(self, what: str | re.Pattern[str], since: int) -> Any:
-        """The line, or the first match of a pattern, from a mark on, or None."""
+        """The line, or the first match of a pattern, from a mark on, or None: in lines as printed, or without their times."""
         lines = self.printed(since)
         if isinstance(what, str):
-            return what if what in lines else None
-        return next((found for line in lines if (found := what.search(line))), None)
+            return next((line for line in lines if what in (line, without_time(line))), None)
+        return next((found for line in lines if (found := what.search(line) or what.search(without_time(line)))), None)
 
     def _check_node(self, name: str, values: list[str]) -> None:
         """Raises an error if the roster does not have the decoder, or the decoder not these values."""

@@ -14,6 +14,13 @@ from .messages import SensorReport, sensor_report_in
 _CONFLICT = re.compile(r"conflict (\S+): (\S+), (\S+)")
 # The time with which each line begins with the option `--times`.
 _TIME = re.compile(r"\d+:\d\d:\d\d\.\d{3} ")
+
+
+def without_time(line: str) -> str:
+    """A line without the time with which it may begin."""
+    time = _TIME.match(line)
+    return line[time.end() :] if time else line
+
 _DERAILMENT = re.compile(r"derailed (\S+) at turnout (\d+)")
 
 
@@ -66,8 +73,7 @@ class Log:
 
     def _note(self, number: int, line: str) -> None:
         """Notes what a line says, whatever its time."""
-        if time := _TIME.match(line):
-            line = line[time.end() :]
+        line = without_time(line)
         word = line.partition(" ")[0]
         if word == "node" and (node := read_node_line(line)):
             self.nodes[node[0]] = number, node[1]

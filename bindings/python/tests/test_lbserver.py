@@ -794,6 +794,17 @@ class TestServer(unittest.TestCase):
             server.turns(20)
             self.assertEqual(client.send(0xBC, 1, 0), TurnoutSide(thrown=True))
 
+    def test_turnouts_on_one_switch(self):
+        plan = OVAL.read_text().replace("switch = 1\n", "switch = 2\ntime = 1000\n")
+        with Server("--turns", "0", roster=OVAL_ROSTER, plan=plan) as server:
+            server.power_on()
+            server.turnout(2).throw()
+            # At most 430 ms.
+            server.turns(40)
+            self.assertEqual(server.turnouts(), {2: None})
+            server.turns(200)
+            self.assertEqual(server.turnouts(), {2: True})
+
     def test_waits_end(self):
         with Server(roster=ROSTER) as server:
             with self.assertRaisesRegex(TimeoutError, "it runs; its log ends"):
@@ -902,6 +913,8 @@ class TestServer(unittest.TestCase):
             loco.speed(63)
             self.assertEqual(server.running("shunter").step, 63)
             self.assertRegex(server.wait_for(re.compile("node shunter")).string, r"^0:00:00\.\d{3} node shunter ")
+            self.assertRegex(server.wait_for("message 83 7C  track power on"), r"^0:00:00\.000 message 83 7C ")
+            self.assertTrue(server.wait_for(re.compile("^node shunter")))
 
     def test_options_that_are_wrong(self):
         with self.assertRaisesRegex(ConnectionError, "status 1"), Server("--lose", "100"):
