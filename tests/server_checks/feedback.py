@@ -56,7 +56,8 @@ STORY = [
     (send(STATE_2, STATE_2040), [IS_THROWN, IS_CLOSED]),
     ([*turned(2, True), *send(STATE_2)], [IS_CLOSED]),
     (["TURNS 100", *send(STATE_2)], [CLOSED_2, IS_CLOSED]),
-    ([*turned(2, False), *send(STATE_2)], [IS_THROWN]),
+    ([*turned(2, False), *send(STATE_2), "TURNS 30"], [IS_THROWN]),
+    # It has moved for at least 220 ms, and 72 later it still moves back.
     ([*turned(2, True), *send(STATE_2)], [IS_CLOSED]),
 ]
 
