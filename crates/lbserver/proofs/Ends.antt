@@ -9,13 +9,19 @@ use Rattle.console.specs.declared.fault.RunFault.TheVariants.{NoMemory}
 use Rattle.server_orders.specs.ServerLine.{IsServerFault}
 use Rattle.lbserver.specs.declared.fault.ServerFault.{ServerFault}
 use Rattle.lbserver.specs.declared.fault.ServerFault.TheVariants.{Order, Output, Run}
-use Rattle.lbserver.specs.Execution.{AreNoOrder, IsEnd, ended_by_output, is_of_file, status_of}
+use Rattle.lbserver.specs.Execution.{AreNoOrder, IsEnd, IsOpened, ended_by_output, is_of_file, status_of}
 
 -- for a file only if one is named
 pub of_named : {A : Type 0} (P : Type 0) (named failed faulted : Bool) (r : Result A ServerFault) → (named ≡ true → P) → IsEnd named failed faulted r → IfErr r (λ fault. is_of_file fault ≡ true → P)
 of_named P named failed faulted (Ok value) gives ends = tt
 of_named P true failed faulted (Err fault) gives ends = λ of. gives refl
 of_named P false failed faulted (Err fault) gives ends = λ of. absurd (both_ways false refl (subst (λ (b : Bool). not b ≡ true) of ends.1))
+
+-- with status 2 only if a file is named
+pub of_opened : {A : Type 0} (P : Type 0) (named : Bool) (r : Result A ServerFault) → (named ≡ true → P) → IsOpened named r → IfErr r (λ fault. status_of fault ≡ 2 → P)
+of_opened P named (Ok value) gives ends = tt
+of_opened P true (Err fault) gives ends = λ two. gives refl
+of_opened P false (Err fault) gives ends = λ two. absurd (both_ways false refl (subst (λ (n : ℕ). not (n == 2) ≡ true) two ends))
 
 -- with status 4 only if a call of the system failed
 pub of_faulted : {A : Type 0} (P : Type 0) (named failed faulted : Bool) (r : Result A ServerFault) → (faulted ≡ true → P) → IsEnd named failed faulted r → IfErr r (λ fault. status_of fault ≡ 4 → P)
@@ -55,6 +61,24 @@ unwritten {A = A} P fault true (Err e) same asked kept gives = λ four. elim (as
   | inr memory ↦ let six : 6 ≡ 4 = subst (λ (f : ServerFault). status_of f ≡ 4) memory four in absurd (omega (arith, six))
 ]
 unwritten {A = A} P fault false (Err e) same asked kept gives = λ four. absurd (not_network fault (subst (λ (r : Result A ServerFault). HasStatus4 r) (kept same) four))
+
+abbrev HasStatus2 : {A : Type 0} → Result A ServerFault → Type 0
+HasStatus2 (Ok a) = ⊥
+HasStatus2 (Err fault) = status_of fault ≡ 2
+
+not_unopened : (fault : OrderFault) → status_of (Order fault) ≡ 2 → ⊥
+not_unopened (words.Usage error) two = absurd (omega (arith, two))
+not_unopened words.NoMemory two = absurd (omega (arith, two))
+
+-- never with status 2 if they are no order
+pub opened : {A : Type 0} (P : Type 0) (fault : OrderFault) (asks : Bool) (r : Result A ServerFault) → is_request fault ≡ asks
+    → (is_request fault ≡ true → IfErr r (λ e. (e ≡ Output) ⊎ (e ≡ Run NoMemory))) → (is_request fault ≡ false → r ≡ Err (Order fault)) → IfErr r (λ e. status_of e ≡ 2 → P)
+opened P fault asks (Ok a) same asked kept = tt
+opened P fault true (Err e) same asked kept = λ two. elim (asked same) [
+  | inl output ↦ let four : 4 ≡ 2 = subst (λ (f : ServerFault). status_of f ≡ 2) output two in absurd (omega (arith, four))
+  | inr memory ↦ let six : 6 ≡ 2 = subst (λ (f : ServerFault). status_of f ≡ 2) memory two in absurd (omega (arith, six))
+]
+opened {A = A} P fault false (Err e) same asked kept = λ two. absurd (not_unopened fault (subst (λ (r : Result A ServerFault). HasStatus2 r) (kept same) two))
 
 -- a run that was carried out has status 0 or 7
 pub done_or_lost : {P Q : Type 0} (failed : Bool) (status : ℕ) → (failed ≡ false → (status ≡ 0) × Q) → (failed ≡ true → status ≡ 7) → (status ≡ 2) ⊎ (status ≡ 3) → P

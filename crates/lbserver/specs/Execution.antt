@@ -150,12 +150,24 @@ is_of_file fault = status_of fault == 2 || status_of fault == 3
 abbrev pub names_decoder : List Share → Bool
 names_decoder shares = list_any (λ share. is_some (decoder_of share)) shares
 
--- the order names a file, or asks for the page, which is one, or names a decoder that its roster has to have
+-- the order names a file, or asks for the page, which is one
 abbrev pub names_file : ServerOrder → Bool
-names_file order = is_some order.roster || is_some order.plan || is_some order.programmer || is_some order.page || names_decoder order.lose.items
+names_file order = is_some order.roster || is_some order.plan || is_some order.programmer || is_some order.page
 
 abbrev pub NameFile : List (List ℕ) → Type 0
 NameFile words = (order : ServerOrder) × IsServerOrderOf words order × (names_file order ≡ true)
+
+-- or names a decoder that its roster has to have
+abbrev pub names_part : ServerOrder → Bool
+names_part order = names_file order || names_decoder order.lose.items
+
+abbrev pub NamePart : List (List ℕ) → Type 0
+NamePart words = (order : ServerOrder) × IsServerOrderOf words order × (names_part order ≡ true)
+
+-- A run, in which a file is named or none, did not end for a file that cannot be read, unless one is.
+abbrev pub IsOpened : {A : Type 0} → (named : Bool) → Result A ServerFault → Type 0
+IsOpened named (Ok a) = ⊤
+IsOpened named (Err fault) = (if named then true else not (status_of fault == 2)) ≡ true
 
 -- The arguments are those of an order, and a call of the system failed; or they ask for a text, and it could not be written.
 abbrev pub IsStopped : List (List ℕ) → (failed : Bool) → DeviceLogs → Type 0

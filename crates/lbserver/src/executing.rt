@@ -6,7 +6,7 @@ ghost use Rattle.bus_server.specs.Running.{run_snapshot};
 ghost use Rattle.bus_server.specs.Snapshots.{state_of};
 ghost use Rattle.bus_server.specs.SoFar.{IsBeginning};
 ghost use Rattle.console.specs.Files.{IsRosterOf};
-ghost use Rattle.lbserver.specs.Execution.{AreNoOrder, HasPace, IsEnd, IsReady, IsStopped, IsUnserved, NameFile, RunsWords, ServesBy, ServesLogged, ServesOrder, ServesPlan, ServesProgrammer, clients_of, entries_in, is_of_file, logs_of, names_file, pace_of, status_of};
+ghost use Rattle.lbserver.specs.Execution.{AreNoOrder, HasPace, IsEnd, IsOpened, IsReady, IsStopped, IsUnserved, NameFile, NamePart, RunsWords, ServesBy, ServesLogged, ServesOrder, ServesPlan, ServesProgrammer, clients_of, entries_in, is_of_file, logs_of, names_file, names_part, pace_of, status_of};
 ghost use Rattle.server_orders.specs.declared.words.ServerOrder.{ServerOrder as OrderValue};
 
 use crate::answering::answer;
@@ -65,11 +65,12 @@ pub(crate) fn execute<O: Write, E: Write>(
     ensures lost { result ≡ 7 → (output.new.failed ≡ true)
         × RunsWords (map (λ word. word.now) words.entry.now) (O.contents output.old.writer)
         (O.contents output.new.writer) logs.new }
-    // Status 1 only where the arguments are those of no order, 2 and 3 only where they name a file, or
-    // a decoder that misses packets.
+    // Status 1 only where the arguments are those of no order, 2 only where they name a file or ask for
+    // the page, and 3 only there or where they name a decoder that misses packets.
     ensures refuses { result ≡ 1 → AreNoOrder (map (λ word. word.now) words.entry.now) }
     ensures unread { (result ≡ 2) ⊎ (result ≡ 3)
-        → NameFile (map (λ word. word.now) words.entry.now) }
+        → NamePart (map (λ word. word.now) words.entry.now) }
+    ensures unopened { result ≡ 2 → NameFile (map (λ word. word.now) words.entry.now) }
     // Status 4 only where a call of the system failed in a run of an order, or where the text that
     // the arguments ask for could not be written.
     ensures stopped { result ≡ 4
@@ -116,6 +117,8 @@ fn run<O: Write>(
     ensures refuses { IfErr result (λ fault. status_of fault ≡ 1
         → AreNoOrder (map (λ word. word.now) words.entry.now)) }
     ensures unread { IfErr result (λ fault. is_of_file fault ≡ true
+        → NamePart (map (λ word. word.now) words.entry.now)) }
+    ensures unopened { IfErr result (λ fault. status_of fault ≡ 2
         → NameFile (map (λ word. word.now) words.entry.now)) }
     ensures stopped { IfErr result (λ fault. status_of fault ≡ 4
         → IsStopped (map (λ word. word.now) words.entry.now) output.new.failed logs.new) }
@@ -143,7 +146,8 @@ fn with_roster<O: Write>(
     ensures serves { OnOk result
         ((roster : _) × IsRosterOf order.old.roster roster
         × ServesPlan order.old (entries_in roster) logs.new) }
-    ensures end { IsEnd (names_file order.old) output.new.failed logs.new.faults.failed result }
+    ensures end { IsEnd (names_part order.old) output.new.failed logs.new.faults.failed result }
+    ensures opened { IsOpened (names_file order.old) result }
     ensures starved { IfErr result (λ fault. status_of fault ≡ 6
         → (output.new ≡ output.old) × IsUnserved logs.new) }
 {
@@ -163,7 +167,8 @@ fn with_plan<O: Write>(
     requires new { IsUnserved logs.old }
     requires pace { HasPace order.old }
     ensures serves { OnOk result (ServesPlan order.old (entries_of roster.entry) logs.new) }
-    ensures end { IsEnd (names_file order.old) output.new.failed logs.new.faults.failed result }
+    ensures end { IsEnd (names_part order.old) output.new.failed logs.new.faults.failed result }
+    ensures opened { IsOpened (names_file order.old) result }
     ensures starved { IfErr result (λ fault. status_of fault ≡ 6
         → (output.new ≡ output.old) × IsUnserved logs.new) }
 {

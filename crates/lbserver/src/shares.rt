@@ -3,7 +3,7 @@ ghost use Rattle.std.specs.Prelude.{◌≡◌, None, IfErr, OnOk, false, option_
 ghost use Rattle.std.specs.List.{list_any};
 ghost use Rattle.std.specs.Str.{bytes_eq};
 ghost use Rattle.roster.specs.Decoders.{entries_of, names_of};
-ghost use Rattle.lbserver.specs.Execution.{IsEnd, names_decoder};
+ghost use Rattle.lbserver.specs.Execution.{IsEnd, IsOpened, names_decoder};
 ghost use Rattle.lbserver.specs.Sharing.{NamesUnknown, first_unknown, is_known, shares_of};
 
 use crate::fault::ServerFault;
@@ -27,6 +27,7 @@ pub(crate) fn check_names(
     ensures fault { IfErr result
         (NamesUnknown (names_of (entries_of roster.entry)) shares.now) }
     ensures end { IsEnd (names_decoder shares.now) false false result }
+    ensures opened { IsOpened false result }
 {
     match first_unknown(shares, roster) {
         Some(name) => Err(ServerFault::NoDecoder(String::from_str(alloc, name)?)),
