@@ -7,17 +7,19 @@ use Rattle.dcc_packet.specs.declared.steps.Motion.{Motion}
 use Rattle.dcc_packet.specs.declared.steps.Motion.TheVariants.{Stop, Emergency, Step}
 use Rattle.dcc_packet.specs.Form.{bit, with_check, to_decoder}
 
--- S-9.2.1, 2.3.2 with 128 steps and 2.3.3 with 14: 0 stop, 1 emergency stop, n + 1 step n
-abbrev pub code_of : Motion → ℕ
-code_of Stop = 0
-code_of Emergency = 1
-code_of (Step _ n) = n + 1
+-- 0 stop, a number for emergency stop, and step n so far from n
+abbrev pub code_by : (emergency offset : ℕ) → Motion → ℕ
+code_by emergency offset Stop = 0
+code_by emergency offset Emergency = emergency
+code_by emergency offset (Step _ n) = n + offset
 
--- S-9.2.1, 2.3.3 with 28 steps: SSSSC is 0 stop, 2 emergency stop, n + 3 step n
+-- S-9.2.1, 2.3.2 with 128 steps and 2.3.3 with 14: 1 emergency stop, n + 1 step n
+abbrev pub code_of : Motion → ℕ
+code_of = code_by 1 1
+
+-- S-9.2.1, 2.3.3 with 28 steps: SSSSC is 2 emergency stop, n + 3 step n
 abbrev pub code_28_of : Motion → ℕ
-code_28_of Stop = 0
-code_28_of Emergency = 2
-code_28_of (Step _ n) = n + 3
+code_28_of = code_by 2 3
 
 -- CSSSS: with 14 steps C is F0; with 28 steps it is the lowest bit of SSSSC
 abbrev pub low_14 : Motion → Bool → ℕ

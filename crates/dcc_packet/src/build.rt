@@ -6,7 +6,7 @@ ghost use Rattle.dcc_packet.specs.Form.{to_decoder};
 ghost use Rattle.dcc_packet.specs.Meant.{speed_instr, group_one_instr, group_two_instr, group_three_instr, accessory_instr};
 ghost use Rattle.dcc_packet.specs.Spells.{Spells};
 ghost use Rattle.dcc_packet.specs.declared.instr.Instr.TheVariants.{Idle, StopAll};
-ghost use Rattle.dcc_packet.specs.Sent.{code_of, code_28_of, speed_bytes, group_one_bytes, group_two_bytes, group_three_bytes, accessory_bytes, idle_bytes, stop_all_bytes, last_switch};
+ghost use Rattle.dcc_packet.specs.Sent.{code_by, speed_bytes, group_one_bytes, group_two_bytes, group_three_bytes, accessory_bytes, idle_bytes, stop_all_bytes, last_switch};
 
 use crate::address::Address;
 use crate::packet::{MAX_LEN, Packet};
@@ -34,27 +34,15 @@ fn to_decoder(address: Address, instruction: &[u8]) -> Packet
     Packet::ended(body)
 }
 
-/// The number of a motion with 14 or 128 steps: 0 stop, 1 emergency stop, `n + 1` step n.
-fn code_of(motion: Motion) -> u8
-    requires { code_of motion < 256 }
-    ensures { result ≡ code_of motion }
+/// The number of a motion: 0 stop, `emergency` emergency stop, `n + offset` step n.
+fn code_of(motion: Motion, emergency: u8, offset: u8) -> u8
+    requires { code_by emergency offset motion < 256 }
+    ensures { result ≡ code_by emergency offset motion }
 {
     match motion {
         Motion::Stop => 0,
-        Motion::Emergency => 1,
-        Motion::Step { n, .. } => n + 1,
-    }
-}
-
-/// The number of a motion with 28 steps: 0 stop, 2 emergency stop, `n + 3` step n.
-fn code_28_of(motion: Motion) -> u8
-    requires { code_28_of motion < 256 }
-    ensures { result ≡ code_28_of motion }
-{
-    match motion {
-        Motion::Stop => 0,
-        Motion::Emergency => 2,
-        Motion::Step { n, .. } => n + 3,
+        Motion::Emergency => emergency,
+        Motion::Step { n, .. } => n + offset,
     }
 }
 
@@ -69,16 +57,19 @@ pub fn speed(address: Address, steps: Steps, motion: Motion, forward: bool, f0: 
     match steps {
         Steps::S14 => to_decoder(
             address,
-            &[64 + 32 * u8::from(forward) + 16 * u8::from(f0) + code_of(motion)],
+            &[64 + 32 * u8::from(forward) + 16 * u8::from(f0) + code_of(motion, 1, 1)],
         ),
         Steps::S28 => {
-            let code = code_28_of(motion);
+            let code = code_of(motion, 2, 3);
             to_decoder(
                 address,
                 &[64 + 32 * u8::from(forward) + 16 * (code % 2) + code / 2],
             )
         }
-        Steps::S128 => to_decoder(address, &[0x3F, 128 * u8::from(forward) + code_of(motion)]),
+        Steps::S128 => to_decoder(
+            address,
+            &[0x3F, 128 * u8::from(forward) + code_of(motion, 1, 1)],
+        ),
     }
 }
 
