@@ -1,6 +1,6 @@
 -- The operation of a message (LocoNet, table of opcodes).
-use Rattle.std.specs.Prelude.{ℕ, ◌+◌, ◌*◌, ◌/◌, ◌%◌, ◌&&◌, ◌==◌, Bool, true, if◌then◌else◌, nat_lt, nat_le, List, slice_index, IsTrue}
-use Rattle.ln_ops.specs.Fields.{SlotBytes}
+use Rattle.std.specs.Prelude.{ℕ, ◌+◌, ◌*◌, ◌/◌, ◌%◌, ◌&&◌, ◌==◌, Bool, true, false, if◌then◌else◌, nat_lt, nat_le, List, slice_index, IsTrue}
+use Rattle.ln_ops.specs.Fields.{SlotBytes, slot_bytes}
 use Rattle.ln_ops.specs.declared.op.Op.{Op}
 use Rattle.ln_ops.specs.declared.op.Op.TheVariants.{PowerOff, PowerOn, ForceIdle, Speed, Dirf, Snd, SwReq, SwAck, LongAck, SlotStat, Move, SlotRead, LocoAddr, SlotData, SlotWrite, Imm, Other}
 
@@ -16,21 +16,17 @@ is_closed sw2 = sw2 / 32 % 2 == 1
 abbrev pub is_on : ℕ → Bool
 is_on sw2 = sw2 / 16 % 2 == 1
 
+-- what OPC_SW_REQ asks for, and OPC_SW_ACK, which asks for a long acknowledge too
+abbrev pub switch_of : (acknowledged : Bool) → ℕ → ℕ → Op
+switch_of true sw1 sw2 = SwAck (switch_number sw1 sw2) (is_closed sw2) (is_on sw2)
+switch_of false sw1 sw2 = SwReq (switch_number sw1 sw2) (is_closed sw2) (is_on sw2)
+
 -- the slot data behind opcode and count
 abbrev pub fields_of : List ℕ → SlotBytes
-fields_of m = record {
-  slot = slice_index m 2;
-  stat = slice_index m 3;
-  adr = slice_index m 4;
-  spd = slice_index m 5;
-  dirf = slice_index m 6;
-  trk = slice_index m 7;
-  ss2 = slice_index m 8;
-  adr2 = slice_index m 9;
-  snd = slice_index m 10;
-  id1 = slice_index m 11;
-  id2 = slice_index m 12;
-}
+fields_of m =
+    slot_bytes (slice_index m 2) (slice_index m 3) (slice_index m 4) (slice_index m 5)
+    (slice_index m 6) (slice_index m 7) (slice_index m 8) (slice_index m 9)
+    (slice_index m 10) (slice_index m 11) (slice_index m 12)
 
 -- bit 7 of an IM byte is in DHI, the other seven bits in the byte
 abbrev pub im_byte : ℕ → ℕ → ℕ
@@ -56,8 +52,8 @@ four_of opcode first second =
     if opcode == 0xA0 then Speed first second else
     (if opcode == 0xA1 then Dirf first second else
     (if opcode == 0xA2 then Snd first second else
-    (if opcode == 0xB0 then SwReq (switch_number first second) (is_closed second) (is_on second) else
-    (if opcode == 0xBD then SwAck (switch_number first second) (is_closed second) (is_on second) else
+    (if opcode == 0xB0 then switch_of false first second else
+    (if opcode == 0xBD then switch_of true first second else
     (if opcode == 0xB4 then LongAck first second else
     (if opcode == 0xB5 then SlotStat first second else
     (if opcode == 0xBA then Move first second else

@@ -30,39 +30,15 @@ pub struct SlotFields {
 }
 
 impl Model for SlotFields {
-    ghost use Rattle.ln_ops.specs.Fields.{SlotBytes, AreData};
+    ghost use Rattle.ln_ops.specs.Fields.{SlotBytes, AreData, slot_bytes};
 
     ghost Value = { SlotBytes };
 
     ghost view = { λ f.
-        record {
-          slot = f.slot;
-          stat = f.stat;
-          adr = f.adr;
-          spd = f.spd;
-          dirf = f.dirf;
-          trk = f.trk;
-          ss2 = f.ss2;
-          adr2 = f.adr2;
-          snd = f.snd;
-          id1 = f.id1;
-          id2 = f.id2;
-        } };
+        slot_bytes f.slot f.stat f.adr f.spd f.dirf f.trk f.ss2 f.adr2 f.snd f.id1 f.id2 };
 
-    ghost invariant = { λ f.
-        AreData (record {
-          slot = f.slot;
-          stat = f.stat;
-          adr = f.adr;
-          spd = f.spd;
-          dirf = f.dirf;
-          trk = f.trk;
-          ss2 = f.ss2;
-          adr2 = f.adr2;
-          snd = f.snd;
-          id1 = f.id1;
-          id2 = f.id2;
-        }) };
+    ghost invariant = { λ f. AreData
+        (slot_bytes f.slot f.stat f.adr f.spd f.dirf f.trk f.ss2 f.adr2 f.snd f.id1 f.id2) };
 
     ghost inverse = { λ f.
         record {

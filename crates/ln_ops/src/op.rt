@@ -1,6 +1,6 @@
 //! What a message asks or tells.
 ghost use Rattle.std.specs.Prelude.{◌≡◌, ℕ, ◌<◌, ◌≤◌, length, slice_index};
-ghost use Rattle.ln_ops.specs.Message.{fields_of, four_of, im_byte, imm_of, is_closed, is_on, IsOfData, op_of, switch_number};
+ghost use Rattle.ln_ops.specs.Message.{fields_of, four_of, im_byte, imm_of, is_closed, is_on, IsOfData, op_of, switch_number, switch_of};
 
 use crate::fields::SlotFields;
 use ln_frame::Msg;
@@ -180,8 +180,8 @@ fn read_four(opcode: u8, first: u8, second: u8) -> Op
             slot: first,
             snd: second,
         },
-        OPC_SW_REQ => read_sw_req(first, second),
-        OPC_SW_ACK => read_sw_ack(first, second),
+        OPC_SW_REQ => read_switch(false, first, second),
+        OPC_SW_ACK => read_switch(true, first, second),
         OPC_LONG_ACK => Op::LongAck {
             opc: first,
             ack: second,
@@ -203,29 +203,19 @@ fn read_four(opcode: u8, first: u8, second: u8) -> Op
     }
 }
 
-// The request of OPC_SW_REQ. A separate function, so that no other message reads these bits.
-fn read_sw_req(sw1: u8, sw2: u8) -> Op
+// The request of OPC_SW_REQ, or of OPC_SW_ACK, which asks for a long acknowledge. A separate
+// function, so that no other message reads these bits.
+fn read_switch(acknowledged: bool, sw1: u8, sw2: u8) -> Op
     requires { sw1 < 128 }
-    ensures op { result ≡ Op.SwReq (switch_number sw1 sw2) (is_closed sw2) (is_on sw2) }
+    ensures op { result ≡ switch_of acknowledged sw1 sw2 }
     ensures data { IsOfData result }
 {
-    Op::SwReq {
-        number: switch_number(sw1, sw2),
-        closed: is_closed(sw2),
-        on: is_on(sw2),
-    }
-}
-
-// The request of OPC_SW_ACK.
-fn read_sw_ack(sw1: u8, sw2: u8) -> Op
-    requires { sw1 < 128 }
-    ensures op { result ≡ Op.SwAck (switch_number sw1 sw2) (is_closed sw2) (is_on sw2) }
-    ensures data { IsOfData result }
-{
-    Op::SwAck {
-        number: switch_number(sw1, sw2),
-        closed: is_closed(sw2),
-        on: is_on(sw2),
+    let number = switch_number(sw1, sw2);
+    let (closed, on) = (is_closed(sw2), is_on(sw2));
+    if acknowledged {
+        Op::SwAck { number, closed, on }
+    } else {
+        Op::SwReq { number, closed, on }
     }
 }
 
