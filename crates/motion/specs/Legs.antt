@@ -1,5 +1,5 @@
 -- The parts of a time in which a train changes its speed evenly.
-use Rattle.std.specs.Prelude.{ℕ, ◌+◌, ◌-◌, ◌*◌, ◌/◌, ◌==◌, min, Bool, if◌then◌else◌}
+use Rattle.std.specs.Prelude.{ℕ, ◌≡◌, ◌<◌, ◌≤◌, ◌^◌, ◌+◌, ◌-◌, ◌*◌, ◌/◌, ◌==◌, min, Bool, if◌then◌else◌}
 use Rattle.motion.specs.declared.leg.Leg.{Leg}
 use Rattle.motion.specs.Velocity.{velocity, sum_below}
 
@@ -41,3 +41,15 @@ falling_leg forward speed target rate micros =
     if (speed - target) / rate == 0 then last_leg forward target else
     down_leg forward (speed - min ((speed - target) / rate) micros * rate) rate
     (min ((speed - target) / rate) micros)
+
+-- a change between two speeds, at a rate, in a part that is not too long
+pub record IsChange (low high each micros : ℕ) : Type 0 where
+  pub differs : low < high
+  pub slow : high ≤ 2199023255552
+  pub rate : 0 < each
+  pub short : micros ≤ 1048576
+
+-- this part, whose way is short enough
+pub record GivesLeg (wanted given : Leg) : Type 0 where
+  pub leg : given ≡ wanted
+  pub short : given.way < 2 ^ 63

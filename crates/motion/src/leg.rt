@@ -1,6 +1,6 @@
 //! Time cut into parts in which a train goes in one direction, and changes its speed evenly.
-ghost use Rattle.std.specs.Prelude.{◌≡◌, ◌≤◌, ◌<◌, ◌^◌, IsTrue, min};
-ghost use Rattle.motion.specs.Legs.{falling_leg, last_leg, rising_leg, steady_leg};
+ghost use Rattle.std.specs.Prelude.{◌≡◌, ◌≢◌, ◌≤◌, ◌<◌, ◌*◌, ◌/◌, IfSome, IsTrue, MatchOption, min};
+ghost use Rattle.motion.specs.Legs.{falling_leg, GivesLeg, IsChange, last_leg, rising_leg, steady_leg};
 ghost use Rattle.motion.specs.Velocity.{IsLeg, is_drive, is_facing, sum_below};
 
 use crate::velocity::{Drive, Velocity};
@@ -66,8 +66,7 @@ impl Velocity {
 fn steady(forward: bool, speed: u64, micros: u32) -> Leg
     requires slow { speed ≤ 2199023255552 }
     requires short { micros ≤ 1048576 }
-    ensures leg { result ≡ steady_leg forward speed micros }
-    ensures short { result.way < 2 ^ 63 }
+    ensures { GivesLeg (steady_leg forward speed micros) result }
 {
     Leg {
         micros,
@@ -78,54 +77,52 @@ fn steady(forward: bool, speed: u64, micros: u32) -> Leg
 
 /// Returns a part in which a train gathers speed, evenly but for the last step.
 fn rising(forward: bool, speed: u64, target: u64, rate: u16, micros: u32) -> Leg
-    requires up { speed < target }
-    requires slow { target ≤ 2199023255552 }
-    requires rate { 0 < rate }
-    requires short { micros ≤ 1048576 }
-    ensures leg { result ≡ rising_leg forward speed target rate micros }
-    ensures short { result.way < 2 ^ 63 }
+    requires { IsChange speed target rate micros }
+    ensures { GivesLeg (rising_leg forward speed target rate micros) result }
 {
-    let rate = u64::from(rate);
-    let steps = (target - speed) / rate;
-    if steps == 0 {
+    let Some(steps) = whole_steps(target - speed, rate, micros) else {
         return last(forward, target);
-    }
-    let steps = least(steps, micros);
-    let gained = u64::from(steps) * rate;
+    };
     Leg {
         micros: steps,
-        way: u64::from(steps) * speed + rate * sum_below(steps + 1),
+        way: u64::from(steps) * speed + u64::from(rate) * sum_below(steps + 1),
         velocity: Velocity {
             forward,
-            speed: speed + gained,
+            speed: speed + u64::from(steps) * u64::from(rate),
         },
     }
 }
 
 /// Returns a part in which a train brakes, evenly but for the last step.
 fn falling(forward: bool, speed: u64, target: u64, rate: u16, micros: u32) -> Leg
-    requires down { target < speed }
-    requires slow { speed ≤ 2199023255552 }
-    requires rate { 0 < rate }
-    requires short { micros ≤ 1048576 }
-    ensures leg { result ≡ falling_leg forward speed target rate micros }
-    ensures short { result.way < 2 ^ 63 }
+    requires { IsChange target speed rate micros }
+    ensures { GivesLeg (falling_leg forward speed target rate micros) result }
 {
-    let rate = u64::from(rate);
-    let steps = (speed - target) / rate;
-    if steps == 0 {
+    let Some(steps) = whole_steps(speed - target, rate, micros) else {
         return last(forward, target);
-    }
-    let steps = least(steps, micros);
-    let lost = u64::from(steps) * rate;
-    let base = speed - lost;
+    };
+    let base = speed - u64::from(steps) * u64::from(rate);
     Leg {
         micros: steps,
-        way: u64::from(steps) * base + rate * sum_below(steps),
+        way: u64::from(steps) * base + u64::from(rate) * sum_below(steps),
         velocity: Velocity {
             forward,
             speed: base,
         },
+    }
+}
+
+/// Returns how many equal steps of a rate a train makes towards a speed so far away, at most
+/// `micros`, if it makes any.
+fn whole_steps(difference: u64, rate: u16, micros: u32) -> Option<u32>
+    requires { 0 < rate }
+    ensures steps { MatchOption result (difference / rate ≡ 0)
+        (λ steps. (difference / rate ≢ 0) × (steps ≡ min (difference / rate) micros)) }
+    ensures fit { IfSome result (λ steps. steps * rate ≤ difference) }
+{
+    match difference / u64::from(rate) {
+        0 => None,
+        steps => Some(least(steps, micros)),
     }
 }
 
