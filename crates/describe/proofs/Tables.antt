@@ -4,6 +4,8 @@ use Rattle.std.specs.Borrow.{Bor}
 use Rattle.describe.specs.declared.fields.Field.{Field}
 use Rattle.describe.specs.declared.rows.Part.{Part}
 use Rattle.describe.specs.declared.rows.Part.TheVariants.{Text, Number, Hex, Choice, On}
+use Rattle.describe.specs.Fields.{value_of}
+use Rattle.describe.specs.Pieces.{states_words}
 use Rattle.describe.specs.Rows.{Phrase, Row, applies, choice_text, made_text, parts_of, parts_text, row_text}
 
 -- a part and its texts, and a row, without the addresses of the texts
@@ -49,7 +51,7 @@ same_made bytes Text texts = same_choice texts 0
 same_made bytes (Number field) texts = refl
 same_made bytes (Hex field) texts = refl
 same_made bytes (Choice field) texts = same_choice texts _
-same_made bytes (On first field) texts = refl
+same_made bytes (On first field) texts = ap (λ label. label ++ states_words first (value_of field bytes)) (same_choice texts 0)
 
 same_parts : (bytes : List ℕ) (parts : List Phrase) → parts_text bytes parts ≡ parts_text bytes (map placed_said (map plain_said parts))
 unfolding parts_text

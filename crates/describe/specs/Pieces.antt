@@ -21,6 +21,10 @@ four_on first bits =
 abbrev pub eight_on : ℕ → ℕ → List ℕ
 eight_on first bits = four_on first bits ++ four_on (first + 4) (bits / 16)
 
+-- those of eight that are on, or that all are off
+abbrev pub states_words : ℕ → ℕ → List ℕ
+states_words first bits = if bits == 0 then codes " all off" else eight_on first bits ++ codes " on"
+
 -- the label of a group of functions, and the names of those that are on, the first in bit 0
 unfoldable pub functions_words : List ℕ → ℕ → ℕ → List ℕ
-functions_words label first bits = label ++ (if bits == 0 then codes " all off" else eight_on first bits ++ codes " on")
+functions_words label first bits = label ++ states_words first bits

@@ -7,7 +7,7 @@ use Rattle.describe.specs.declared.fields.Field.{Field}
 use Rattle.describe.specs.declared.rows.Part.{Part}
 use Rattle.describe.specs.declared.rows.Part.TheVariants.{Text, Number, Hex, Choice, On}
 use Rattle.describe.specs.Fields.{value_of}
-use Rattle.describe.specs.Pieces.{hex_pair, eight_on}
+use Rattle.describe.specs.Pieces.{hex_pair, states_words}
 
 -- the text at this index, and nothing after the last
 unfoldable pub choice_text : List (Bor (List ℕ)) → ℕ → List ℕ
@@ -27,14 +27,14 @@ Phrase = Part × Bor (List (Bor (List ℕ)))
 abbrev pub Row : Type 0
 Row = Bor (List (Field × ℕ)) × Bor (List Phrase)
 
--- a part: its text, a field in decimal or hexadecimal digits, a text that a field selects, or the
--- functions that are on
+-- a part: its text, a field in decimal or hexadecimal digits, a text that a field selects, or its
+-- text and the functions that are on
 abbrev pub made_text : List ℕ → Part → List (Bor (List ℕ)) → List ℕ
 made_text bytes Text texts = choice_text texts 0
 made_text bytes (Number field) texts = decimal (value_of field bytes)
 made_text bytes (Hex field) texts = hex_pair (value_of field bytes % 256)
 made_text bytes (Choice field) texts = choice_text texts (value_of field bytes)
-made_text bytes (On first field) texts = eight_on first (value_of field bytes)
+made_text bytes (On first field) texts = choice_text texts 0 ++ states_words first (value_of field bytes)
 
 abbrev pub part_text : List ℕ → Phrase → List ℕ
 part_text bytes said = made_text bytes said.0 said.1.now
@@ -67,7 +67,7 @@ made_most Text texts = longest texts
 made_most (Number field) texts = 5
 made_most (Hex field) texts = 2
 made_most (Choice field) texts = longest texts
-made_most (On first field) texts = 56
+made_most (On first field) texts = longest texts + 59
 
 abbrev pub part_most : Phrase → ℕ
 part_most said = made_most said.0 said.1.now

@@ -4,24 +4,14 @@ use crate::rows::Part::{Choice, Hex, Number, On, Text};
 use crate::rows::Row;
 
 /// The explanation of a whole message of a maker, by its bytes.
-pub(crate) const MAKER_MESSAGES: [Row; 17] = [
+pub(crate) const MAKER_MESSAGES: [Row; 14] = [
     // F9 to F12 of a slot, in bits 0 to 3 (Intellibox)
-    (
-        &[(Byte(0), 0xA3), (LowFour(2), 0)],
-        &[
-            (Text, &["slot "]),
-            (Number(Byte(1)), &[]),
-            (Text, &[": F9 to F12: all off"]),
-        ],
-    ),
     (
         &[(Byte(0), 0xA3)],
         &[
             (Text, &["slot "]),
             (Number(Byte(1)), &[]),
-            (Text, &[": F9 to F12:"]),
-            (On(9, LowFour(2)), &[]),
-            (Text, &[" on"]),
+            (On(9, LowFour(2)), &[": F9 to F12:"]),
         ],
     ),
     // Bits 6 and 5 say what is reported (Digitrax)
@@ -39,39 +29,11 @@ pub(crate) const MAKER_MESSAGES: [Row; 17] = [
     ),
     // D4 20, the slot, a group of functions and their bits (Intellibox)
     (
-        &[
-            (Byte(0), 0xD4),
-            (Byte(1), 0x20),
-            (Byte(3), 8),
-            (LowSeven(4), 0),
-        ],
-        &[
-            (Text, &["slot "]),
-            (Number(Byte(2)), &[]),
-            (Text, &[": F13 to F19: all off"]),
-        ],
-    ),
-    (
         &[(Byte(0), 0xD4), (Byte(1), 0x20), (Byte(3), 8)],
         &[
             (Text, &["slot "]),
             (Number(Byte(2)), &[]),
-            (Text, &[": F13 to F19:"]),
-            (On(13, LowSeven(4)), &[]),
-            (Text, &[" on"]),
-        ],
-    ),
-    (
-        &[
-            (Byte(0), 0xD4),
-            (Byte(1), 0x20),
-            (Byte(3), 9),
-            (LowSeven(4), 0),
-        ],
-        &[
-            (Text, &["slot "]),
-            (Number(Byte(2)), &[]),
-            (Text, &[": F21 to F27: all off"]),
+            (On(13, LowSeven(4)), &[": F13 to F19:"]),
         ],
     ),
     (
@@ -79,9 +41,7 @@ pub(crate) const MAKER_MESSAGES: [Row; 17] = [
         &[
             (Text, &["slot "]),
             (Number(Byte(2)), &[]),
-            (Text, &[": F21 to F27:"]),
-            (On(21, LowSeven(4)), &[]),
-            (Text, &[" on"]),
+            (On(21, LowSeven(4)), &[": F21 to F27:"]),
         ],
     ),
     (

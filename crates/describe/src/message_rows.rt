@@ -28,7 +28,7 @@ const TASK_MODES: [&'static str; 16] = [
 ];
 
 /// The explanation of a whole message, by its bytes.
-pub(crate) const MESSAGES: [Row; 53] = [
+pub(crate) const MESSAGES: [Row; 52] = [
     // OPC_BUSY
     (&[(Byte(0), 0x81)], &[(Text, &["busy"])]),
     // OPC_SW_REP: inputs where bit 6 of SN2 is 1, else outputs
@@ -174,21 +174,11 @@ pub(crate) const MESSAGES: [Row; 53] = [
     ),
     // OPC_CONSIST_FUNC
     (
-        &[(Byte(0), 0xB6), (LightAndFour(2), 0)],
-        &[
-            (Text, &["slot "]),
-            (Number(Byte(1)), &[]),
-            (Text, &[", in a consist: F0 to F4: all off"]),
-        ],
-    ),
-    (
         &[(Byte(0), 0xB6)],
         &[
             (Text, &["slot "]),
             (Number(Byte(1)), &[]),
-            (Text, &[", in a consist: F0 to F4:"]),
-            (On(0, LightAndFour(2)), &[]),
-            (Text, &[" on"]),
+            (On(0, LightAndFour(2)), &[", in a consist: F0 to F4:"]),
         ],
     ),
     // OPC_UNLINK_SLOTS, OPC_LINK_SLOTS

@@ -8,7 +8,7 @@ use crate::rows::Row;
 
 /// What a packet tells a decoder, from the first byte after its address to the check, which counts
 /// as one.
-pub(crate) const INSTRUCTIONS: [Row; 42] = [
+pub(crate) const INSTRUCTIONS: [Row; 37] = [
     // nothing but the check
     (&[(Length, 1)], &[(Text, &["unknown form"])]),
     // 2.3.1, decoder control: 0000CCCF
@@ -98,65 +98,25 @@ pub(crate) const INSTRUCTIONS: [Row; 42] = [
     ),
     // 2.3.4 and 2.3.5, function groups to all: 100DDDDD, 1011DDDD, 1010DDDD
     (
-        &[(Length, 2), (Byte(0), 0x80)],
-        &[(Text, &["F0 to F4: all off"])],
-    ),
-    (
         &[(Length, 2), (Top(0, 5), 4)],
-        &[
-            (Text, &["F0 to F4:"]),
-            (On(0, LightAndFour(0)), &[]),
-            (Text, &[" on"]),
-        ],
-    ),
-    (
-        &[(Length, 2), (Byte(0), 0xB0)],
-        &[(Text, &["F5 to F8: all off"])],
+        &[(On(0, LightAndFour(0)), &["F0 to F4:"])],
     ),
     (
         &[(Length, 2), (Top(0, 4), 11)],
-        &[
-            (Text, &["F5 to F8:"]),
-            (On(5, LowFour(0)), &[]),
-            (Text, &[" on"]),
-        ],
-    ),
-    (
-        &[(Length, 2), (Byte(0), 0xA0)],
-        &[(Text, &["F9 to F12: all off"])],
+        &[(On(5, LowFour(0)), &["F5 to F8:"])],
     ),
     (
         &[(Length, 2), (Top(0, 4), 10)],
-        &[
-            (Text, &["F9 to F12:"]),
-            (On(9, LowFour(0)), &[]),
-            (Text, &[" on"]),
-        ],
+        &[(On(9, LowFour(0)), &["F9 to F12:"])],
     ),
     // 2.3.6, feature expansion: 110CCCCC
     (
-        &[(Length, 3), (Byte(0), 0xDE), (Byte(1), 0)],
-        &[(Text, &["F13 to F20: all off"])],
-    ),
-    (
         &[(Length, 3), (Byte(0), 0xDE)],
-        &[
-            (Text, &["F13 to F20:"]),
-            (On(13, Byte(1)), &[]),
-            (Text, &[" on"]),
-        ],
-    ),
-    (
-        &[(Length, 3), (Byte(0), 0xDF), (Byte(1), 0)],
-        &[(Text, &["F21 to F28: all off"])],
+        &[(On(13, Byte(1)), &["F13 to F20:"])],
     ),
     (
         &[(Length, 3), (Byte(0), 0xDF)],
-        &[
-            (Text, &["F21 to F28:"]),
-            (On(21, Byte(1)), &[]),
-            (Text, &[" on"]),
-        ],
+        &[(On(21, Byte(1)), &["F21 to F28:"])],
     ),
     (
         &[(Length, 3), (Byte(0), 0xDD), (LowSeven(1), 0)],

@@ -3,7 +3,7 @@ ghost use Rattle.std.specs.Prelude.{◌≡◌, ◌≤◌, ◌<◌, ◌+◌, ◌*
 ghost use Rattle.std.specs.Fmt.{decimal};
 ghost use Rattle.arrayvec.specs.ArrayVec.{array_vec_len};
 ghost use Rattle.ln_ops.specs.Slot.{address_with};
-ghost use Rattle.describe.specs.Pieces.{hex_pair, one_on, four_on, eight_on, functions_words};
+ghost use Rattle.describe.specs.Pieces.{hex_pair, one_on, four_on, eight_on, functions_words, states_words};
 
 use arrayvec::ArrayVec;
 use text::{decimal_digits, hex_char, push_bytes};
@@ -103,6 +103,22 @@ pub(crate) fn push_eight_on(words: &mut Words, first: u16, bits: u16)
     push_four_on(words, first + 4, bits / 16);
 }
 
+/// Appends the names of those of eight functions that are on, the first in bit 0, or that all are
+/// off.
+pub(crate) fn push_states(words: &mut Words, first: u16, bits: u16)
+    requires room { array_vec_len words.old + 59 ≤ 400 }
+    requires first { first ≤ 255 }
+    ensures text { words.new.items ≡ words.old.items ++ states_words first bits }
+    ensures len { array_vec_len words.new ≤ array_vec_len words.old + 59 }
+{
+    if bits == 0 {
+        push_text(words, " all off");
+    } else {
+        push_eight_on(words, first, bits);
+        push_text(words, " on");
+    }
+}
+
 /// Appends the label of a group of functions and the names of those that are on, the first in bit
 /// 0.
 #[tactic(auto, unfolding(crate::specs::Pieces::functions_words))]
@@ -114,10 +130,5 @@ pub(crate) fn push_functions(words: &mut Words, label: &str, first: u16, bits: u
     ensures len { array_vec_len words.new ≤ array_vec_len words.old + 80 }
 {
     push_text(words, label);
-    if bits == 0 {
-        push_text(words, " all off");
-    } else {
-        push_eight_on(words, first, bits);
-        push_text(words, " on");
-    }
+    push_states(words, first, bits);
 }

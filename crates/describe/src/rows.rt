@@ -4,7 +4,7 @@ ghost use Rattle.arrayvec.specs.ArrayVec.{array_vec_len};
 ghost use Rattle.describe.specs.Rows.{applies, choice_text, fits, longest, most_of, part_text, parts_of, parts_text, part_most, row_text};
 
 use crate::fields::{Field, value_of};
-use crate::pieces::{Words, push_eight_on, push_hex, push_number, push_text};
+use crate::pieces::{Words, push_hex, push_number, push_states, push_text};
 
 /// How a part of an explanation is made, with the texts next to it.
 #[derive(Clone, Copy)]
@@ -17,8 +17,8 @@ pub(crate) enum Part {
     Hex(Field),
     /// The text that a field selects, the first at 0, and nothing after the last.
     Choice(Field),
-    /// The names of those of eight functions that are on: the number of the first, and the field
-    /// that holds it in bit 0.
+    /// The first text, and the names of those of eight functions that are on, or that all are off:
+    /// the number of the first, and the field that holds it in bit 0.
     On(u8, Field),
 }
 
@@ -84,7 +84,10 @@ fn push_part(words: &mut Words, said: &Phrase, bytes: &[u8])
         Part::Number(field) => push_number(words, value_of(field, bytes)),
         Part::Hex(field) => push_hex(words, (value_of(field, bytes) % 256) as u8),
         Part::Choice(field) => push_choice(words, texts, value_of(field, bytes)),
-        Part::On(first, field) => push_eight_on(words, u16::from(first), value_of(field, bytes)),
+        Part::On(first, field) => {
+            push_choice(words, texts, 0);
+            push_states(words, u16::from(first), value_of(field, bytes));
+        }
     }
 }
 
