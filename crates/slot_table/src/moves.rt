@@ -1,9 +1,10 @@
 //! What OPC_MOVE_SLOTS does: null move, dispatch put, dispatch get, and the move of a slot.
-ghost use Rattle.std.specs.Prelude.{◌≡◌, ◌≢◌, IfOk, OnOk, OnErr};
+ghost use Rattle.std.specs.Prelude.{◌≡◌, ◌≢◌, IfOk, OnOk, OnErr, true};
+ghost use Rattle.slot_table.specs.{is_held};
 ghost use Rattle.slot_table.specs.Entry.{IsSlot};
 ghost use Rattle.slot_table.specs.Desk.{IsDesk};
 ghost use Rattle.slot_table.specs.Reading.{is_placed};
-ghost use Rattle.slot_table.specs.Changes.{slot_if};
+ghost use Rattle.slot_table.specs.Changes.{GivesSlot, changed, slot_if};
 ghost use Rattle.slot_table.specs.Moves.{after_null_move, after_dispatch_put, dispatch_get_answer, after_dispatch_get, may_move, can_shift, after_shift};
 
 use crate::bytes::is_slot;
@@ -17,16 +18,10 @@ impl SlotTable {
     ///
     /// Refused as `Illegal` unless the slot is in 1 to 119 and not free.
     pub fn null_move(&mut self, n: u8) -> Result<u8, SlotFault>
-        ensures answer { result ≡ slot_if (is_placed self.old n) n }
-        ensures slot { IfOk result IsSlot }
-        ensures after { self.new ≡ after_null_move self.old n }
-        ensures refused { OnErr result (self.new ≡ self.old) }
-        ensures desk { IsDesk self.new }
+        ensures { GivesSlot (slot_if (is_placed self.old n) n) (after_null_move self.old n)
+            self.old self.new result }
     {
-        let row = self.held(n)?;
-        let state = State::InUse;
-        self.change(n, Row { state, ..row });
-        Ok(n)
+        self.set_state(n, State::InUse)
     }
 
     /// Dispatch put: the slot, which the call answers, is common, and is the one that waits to be
@@ -34,15 +29,10 @@ impl SlotTable {
     ///
     /// Refused as `Illegal` unless the slot is in 1 to 119 and not free.
     pub fn dispatch_put(&mut self, src: u8) -> Result<u8, SlotFault>
-        ensures answer { result ≡ slot_if (is_placed self.old src) src }
-        ensures slot { IfOk result IsSlot }
-        ensures after { self.new ≡ after_dispatch_put self.old src }
-        ensures refused { OnErr result (self.new ≡ self.old) }
-        ensures desk { IsDesk self.new }
+        ensures { GivesSlot (slot_if (is_placed self.old src) src)
+            (after_dispatch_put self.old src) self.old self.new result }
     {
-        let row = self.held(src)?;
-        let state = State::Common;
-        self.change(src, Row { state, ..row });
+        self.set_state(src, State::Common)?;
         self.set_mark(Some(src));
         Ok(src)
     }
@@ -52,17 +42,25 @@ impl SlotTable {
     ///
     /// Refused as `Illegal` where none waits.
     pub fn dispatch_get(&mut self) -> Result<u8, SlotFault>
-        ensures answer { result ≡ dispatch_get_answer self.old.mark }
-        ensures slot { IfOk result IsSlot }
-        ensures after { self.new ≡ after_dispatch_get self.old }
-        ensures refused { OnErr result (self.new ≡ self.old) }
-        ensures desk { IsDesk self.new }
+        ensures { GivesSlot (dispatch_get_answer self.old.mark) (after_dispatch_get self.old)
+            self.old self.new result }
     {
         let Some(n) = self.mark() else {
             return Err(SlotFault::Illegal);
         };
         self.null_move(n)?;
         self.set_mark(None);
+        Ok(n)
+    }
+
+    // Gives a slot, which the call answers, this state. Refused unless it is not free.
+    fn set_state(&mut self, n: u8, state: State) -> Result<u8, SlotFault>
+        requires { is_held state ≡ true }
+        ensures { GivesSlot (slot_if (is_placed self.old n) n)
+            (changed self.old n (λ e. record e { state = state })) self.old self.new result }
+    {
+        let row = self.held(n)?;
+        self.change(n, Row { state, ..row });
         Ok(n)
     }
 
