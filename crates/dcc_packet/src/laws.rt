@@ -24,6 +24,10 @@ pub fn one_spelling()
 {}
 
 /// The instruction of bytes is the one that they spell, and bytes that spell one are a packet with a right check.
+///
+/// `Spells` has one line for each form of packet of S-9.2 and S-9.2.1: the bytes in front of the check, with the ranges
+/// of their parts. `instruction_of` is how a decoder reads them. `IsPacket` says that they are 3 to 6 bytes, `is_checked`
+/// that the last is the exclusive or of the others.
 pub fn spellings_are_read()
     ensures packet { (bytes : List ℕ) (i : Instr) → Spells bytes i → IsPacket bytes
         × IsTrue (is_checked bytes) }
