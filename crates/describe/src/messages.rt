@@ -17,7 +17,7 @@ use crate::rows::push_row;
 use crate::slots::{is_forward, push_slot, push_slot_data, push_spd, push_stat};
 use arrayvec::ArrayVec;
 use ln_frame::Msg;
-use ln_ops::{Op, SlotFields, read};
+use ln_ops::{Op, SlotFields, im_bytes, read};
 
 /// The slots of locomotives.
 fn is_slot(slot: u8) -> bool
@@ -230,14 +230,7 @@ fn push_op(words: &mut Words, op: &Op)
         Op::LocoAddr { high, low } => push_address(words, high, low),
         Op::SlotData(fields) => push_slot_data(words, &fields),
         Op::SlotWrite(fields) => push_written(words, &fields),
-        Op::Imm {
-            count,
-            im1,
-            im2,
-            im3,
-            im4,
-            im5,
-        } => push_imm(words, count, [im1, im2, im3, im4, im5]),
+        Op::Imm { count, .. } => push_imm(words, count, im_bytes(*op)),
         _ => {}
     }
 }
@@ -336,7 +329,7 @@ fn are_data(bytes: &[u8]) -> bool
 /// Every message of the standard is explained, including those that a command station ignores, and
 /// others that are known by their makers' devices are named.
 /// Slots have their own numbers; switches and sensors count from 1. The packet of OPC_IMM_PACKET is
-/// explained by [`packet_words`](crate::packet_words). Bytes that are not a whole message give the
+/// explained by [`describe_packet`](crate::describe_packet). Bytes that are not a whole message give the
 /// reason: `no opcode`, `data above 7F`, `wrong length`, or `wrong check byte, should be` and the right
 /// one, the first that applies.
 pub fn message_words(bytes: &[u8]) -> Words

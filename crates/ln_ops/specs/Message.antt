@@ -1,5 +1,5 @@
 -- The operation of a message (LocoNet, table of opcodes).
-use Rattle.std.specs.Prelude.{ℕ, ◌+◌, ◌*◌, ◌/◌, ◌%◌, ◌&&◌, ◌==◌, Bool, true, false, if◌then◌else◌, nat_lt, nat_le, List, slice_index, IsTrue}
+use Rattle.std.specs.Prelude.{ℕ, ◌+◌, ◌*◌, ◌/◌, ◌%◌, ◌&&◌, ◌==◌, Bool, true, false, if◌then◌else◌, nat_lt, nat_le, List, [], ◌∷◌, slice_index, IsTrue}
 use Rattle.ln_ops.specs.Fields.{SlotBytes, slot_bytes}
 use Rattle.ln_ops.specs.declared.op.Op.{Op}
 use Rattle.ln_ops.specs.declared.op.Op.TheVariants.{PowerOff, PowerOn, ForceIdle, Speed, Dirf, Snd, SwReq, SwAck, LongAck, SlotStat, Move, SlotRead, LocoAddr, SlotData, SlotWrite, Imm, Other}
@@ -43,6 +43,11 @@ imm_of m =
     (im_byte (slice_index m 4 / 4 % 2) (slice_index m 7))
     (im_byte (slice_index m 4 / 8 % 2) (slice_index m 8))
     (im_byte (slice_index m 4 / 16 % 2) (slice_index m 9))
+
+-- the five IM bytes of OPC_IMM_PACKET; zeros of any other operation
+abbrev pub im_bytes_of : Op → List ℕ
+im_bytes_of (Imm count im1 im2 im3 im4 im5) = im1 ∷ im2 ∷ im3 ∷ im4 ∷ im5 ∷ []
+im_bytes_of _ = 0 ∷ 0 ∷ 0 ∷ 0 ∷ 0 ∷ []
 
 -- messages of four bytes, the opcode and two bytes of data: OPC_LOCO_SPD, OPC_LOCO_DIRF,
 -- OPC_LOCO_SND, OPC_SW_REQ, OPC_SW_ACK, OPC_LONG_ACK, OPC_SLOT_STAT1, OPC_MOVE_SLOTS,

@@ -12,7 +12,7 @@ mod row;
 mod sensor;
 
 pub use fields::SlotFields;
-pub use op::{Op, read};
+pub use op::{Op, im_bytes, read};
 pub use reply::{Reply, read_reply, to_msg};
 pub use row::{Row, State};
 pub use sensor::{LAST_SENSOR, SensorReport, begins_interrogation, is_interrogation};

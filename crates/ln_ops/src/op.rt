@@ -1,6 +1,6 @@
 //! What a message asks or tells.
 ghost use Rattle.std.specs.Prelude.{◌≡◌, ℕ, ◌<◌, ◌≤◌, length, slice_index};
-ghost use Rattle.ln_ops.specs.Message.{fields_of, four_of, im_byte, imm_of, is_closed, is_on, IsOfData, op_of, switch_number, switch_of};
+ghost use Rattle.ln_ops.specs.Message.{fields_of, four_of, im_byte, im_bytes_of, imm_of, is_closed, is_on, IsOfData, op_of, switch_number, switch_of};
 
 use crate::fields::SlotFields;
 use ln_frame::Msg;
@@ -267,6 +267,23 @@ fn im_byte(top: u8, low: u8) -> u8
     ensures { result ≡ im_byte top low }
 {
     top * 128 + low
+}
+
+/// The five IM bytes of OPC_IMM_PACKET; zeros of any other operation.
+pub fn im_bytes(op: Op) -> [u8; 5]
+    ensures { result ≡ im_bytes_of op }
+{
+    match op {
+        Op::Imm {
+            im1,
+            im2,
+            im3,
+            im4,
+            im5,
+            ..
+        } => [im1, im2, im3, im4, im5],
+        _ => [0; 5],
+    }
 }
 
 /// The slot data of a message that carries it.

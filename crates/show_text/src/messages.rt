@@ -7,7 +7,7 @@ ghost use Rattle.show_text.specs.Messages.{switch_text, fields_text, packet_text
 
 use crate::line::{Line, push_field};
 use ln_frame::Msg;
-use ln_ops::{Op, SlotFields, read};
+use ln_ops::{Op, SlotFields, im_bytes, read};
 use text::push_hex_words;
 
 /// A label and a byte after it.
@@ -115,14 +115,7 @@ fn push_op(line: &mut Line, op: Op)
             line.push_str("slot-write ");
             push_fields(line, &fields);
         }
-        Op::Imm {
-            count,
-            im1,
-            im2,
-            im3,
-            im4,
-            im5,
-        } => push_packet(line, count, [im1, im2, im3, im4, im5]),
+        Op::Imm { count, .. } => push_packet(line, count, im_bytes(op)),
         Op::Other => line.push_str("other"),
         _ => push_pair_op(line, op),
     }

@@ -20,7 +20,7 @@ use crate::immediate::{counted, more_asked};
 use crate::schedule::{Change, change_of, refresh_if_driven, schedule_changes};
 use crate::slot_data::slot_fields;
 use crate::station::Station;
-use ln_ops::{Op, Reply, SlotFields};
+use ln_ops::{Op, Reply, SlotFields, im_bytes};
 use refresh_ring::Power;
 use slot_table::{Field, SlotFault, SlotTable};
 
@@ -72,14 +72,7 @@ impl Station {
             Op::SwAck { number, closed, on } => self.acknowledge_switch(number, closed, on),
             // Sent by a master, not by a throttle.
             Op::LongAck { .. } | Op::SlotData(_) => None,
-            Op::Imm {
-                count,
-                im1,
-                im2,
-                im3,
-                im4,
-                im5,
-            } => self.set_more(counted(count, &[im1, im2, im3, im4, im5])),
+            Op::Imm { count, .. } => self.set_more(counted(count, &im_bytes(op))),
             Op::Other => None,
         }
     }

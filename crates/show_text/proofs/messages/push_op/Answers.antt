@@ -1,5 +1,5 @@
 use Rattle.std.proofs.Common.{ap, append_assoc, codes, ◌∙◌, ◌++◌}
-use Rattle.show_text.specs.Messages.{fields_text}
+use Rattle.show_text.specs.Messages.{fields_text, packet_text}
 use Rattle.show_text.proofs.messages.push_op.Goals as goal
 
 pub returns-in-PowerOff : goal.returns-in-PowerOff
@@ -30,7 +30,8 @@ pub returns-in-SlotWrite : goal.returns-in-SlotWrite
 returns-in-SlotWrite c = rw c.in-SlotWrite.is (c.push_fields-in-SlotWrite.ensures ∙ ap (λ bytes. bytes ++ fields_text c.in-SlotWrite.fields) c.push_str-in-SlotWrite.ensures.bytes ∙ append_assoc _ (codes "slot-write ") _)
 
 pub returns-in-Imm : goal.returns-in-Imm
-returns-in-Imm c = rw c.in-Imm.is c.push_packet.ensures
+returns-in-Imm c =
+    rw c.in-Imm.is (c.push_packet.ensures ∙ ap (λ bytes. c.args.line.now.bytes ++ packet_text c.in-Imm.count bytes) c.im_bytes.ensures)
 
 pub returns-in-Other : goal.returns-in-Other
 returns-in-Other c = rw c.in-Other.is c.push_str-in-Other.ensures.bytes
