@@ -1,6 +1,6 @@
 //! Explanations of LocoNet messages and DCC packets in plain words.
 //!
-//! [`message_words`] explains the bytes of a message, [`packet_words`] those of a packet and
+//! [`message_words`] explains the bytes of a message, [`describe_packet`] those of a packet and
 //! [`service_words`] those of a packet of the programming track, as [`Words`], ASCII text of at most 400
 //! bytes.
 //!
@@ -23,6 +23,6 @@ mod service_packets;
 mod slots;
 
 pub use messages::{describe_message, message_words};
-pub use packets::{describe_packet, packet_words};
+pub use packets::describe_packet;
 pub use pieces::Words;
 pub use service_packets::service_words;

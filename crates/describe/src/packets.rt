@@ -269,22 +269,13 @@ pub(crate) fn push_packet(words: &mut Words, bytes: &[u8])
     }
 }
 
-/// Explains the bytes of a DCC packet, the check last, in plain words (S-9.2 and S-9.2.1).
+/// Writes what the bytes of a DCC packet say, the check last, in plain words (S-9.2 and S-9.2.1), over
+/// the contents of a buffer.
 ///
 /// Every form that a receiver may meet is explained, including those that no decoder of this
 /// project obeys. Functions, steps and variables have the standard's numbers; switches and signals
 /// count from 1, four to a decoder, the first of decoder 1. Fewer than 3 or more than 6 bytes give
 /// `wrong length`, and a wrong check gives `wrong check`.
-pub fn packet_words(bytes: &[u8]) -> Words
-    ensures { result.items ≡ packet_words bytes.now }
-{
-    let mut words = Words::new();
-    push_packet(&mut words, bytes);
-    words
-}
-
-/// Writes [`packet_words`] over the contents of an existing buffer, for a caller that explains many
-/// packets.
 pub fn describe_packet(words: &mut Words, bytes: &[u8])
     ensures { words.new.items ≡ packet_words bytes.now }
 {
