@@ -40,9 +40,7 @@ pub fn push_sent_error(text: &mut Text, reason: Reason)
         ≡ array_vec_len text.old + length (sent_error_text reason) }
     ensures most { array_vec_len text.new ≤ array_vec_len text.old + 43 }
 {
-    push_bytes(text, b"SENT ERROR ");
-    push_bytes(text, words_of(reason));
-    push_bytes(text, b"\r\n");
+    push_line(text, b"SENT ERROR ", words_of(reason));
 }
 
 /// Appends `TURNS OK`: the turns requested by the client have passed.
@@ -62,19 +60,8 @@ pub fn push_turns(text: &mut Text, turns: &Result<u16, TurnsError>)
     ensures most { array_vec_len text.new ≤ array_vec_len text.old + 43 }
 {
     if let Err(error) = turns {
-        push_turns_error(text, *error);
+        push_line(text, b"TURNS ERROR ", words_of_turns(*error));
     }
-}
-
-/// Appends `TURNS ERROR` and the reason.
-fn push_turns_error(text: &mut Text, error: TurnsError)
-    requires { array_vec_len text.old + 43 ≤ 800 }
-    ensures text { text.new.items ≡ text.old.items ++ turns_text (Err error) }
-    ensures most { array_vec_len text.new ≤ array_vec_len text.old + 43 }
-{
-    push_bytes(text, b"TURNS ERROR ");
-    push_bytes(text, words_of_turns(error));
-    push_bytes(text, b"\r\n");
 }
 
 /// Appends `PLACE OK`: the train was put where the client requested it; or `PLACE ERROR` and the
@@ -86,20 +73,8 @@ pub fn push_place(text: &mut Text, answer: &Result<(), PlaceError>)
 {
     match answer {
         Ok(()) => push_bytes(text, b"PLACE OK\r\n"),
-        Err(error) => push_place_error(text, *error),
+        Err(error) => push_line(text, b"PLACE ERROR ", words_of_place(*error)),
     }
-}
-
-/// Appends `PLACE ERROR` and the reason.
-fn push_place_error(text: &mut Text, error: PlaceError)
-    requires { array_vec_len text.old + 43 ≤ 800 }
-    ensures text { text.new.items
-        ≡ text.old.items ++ (codes "PLACE ERROR " ++ place_error_text error ++ line_end) }
-    ensures most { array_vec_len text.new ≤ array_vec_len text.old + 43 }
-{
-    push_bytes(text, b"PLACE ERROR ");
-    push_bytes(text, words_of_place(error));
-    push_bytes(text, b"\r\n");
 }
 
 /// Appends `MOUNT OK` or `FAIL OK`: what the client requested of the devices beside the station is
@@ -111,33 +86,25 @@ pub fn push_device(text: &mut Text, answer: DeviceAnswer)
 {
     match answer {
         DeviceAnswer::Mount(Ok(())) => push_bytes(text, b"MOUNT OK\r\n"),
-        DeviceAnswer::Mount(Err(error)) => push_mount_error(text, error),
+        DeviceAnswer::Mount(Err(error)) => {
+            push_line(text, b"MOUNT ERROR ", words_of_mount(error));
+        }
         DeviceAnswer::Fail(Ok(())) => push_bytes(text, b"FAIL OK\r\n"),
-        DeviceAnswer::Fail(Err(error)) => push_fail_error(text, error),
+        DeviceAnswer::Fail(Err(error)) => {
+            push_line(text, b"FAIL ERROR ", words_of_fail(error));
+        }
     }
 }
 
-/// Appends `MOUNT ERROR` and the reason.
-fn push_mount_error(text: &mut Text, error: MountError)
-    requires { array_vec_len text.old + 43 ≤ 800 }
-    ensures text { text.new.items
-        ≡ text.old.items ++ (codes "MOUNT ERROR " ++ mount_error_text error ++ line_end) }
-    ensures most { array_vec_len text.new ≤ array_vec_len text.old + 43 }
+/// Appends a line of two texts.
+fn push_line(text: &mut Text, first: &[u8], rest: &[u8])
+    requires { array_vec_len text.old + length first.now + length rest.now + 2 ≤ 800 }
+    ensures text { text.new.items ≡ text.old.items ++ (first.now ++ rest.now ++ line_end) }
+    ensures len { array_vec_len text.new
+        ≡ array_vec_len text.old + length first.now + length rest.now + 2 }
 {
-    push_bytes(text, b"MOUNT ERROR ");
-    push_bytes(text, words_of_mount(error));
-    push_bytes(text, b"\r\n");
-}
-
-/// Appends `FAIL ERROR` and the reason.
-fn push_fail_error(text: &mut Text, error: FailError)
-    requires { array_vec_len text.old + 43 ≤ 800 }
-    ensures text { text.new.items
-        ≡ text.old.items ++ (codes "FAIL ERROR " ++ fail_error_text error ++ line_end) }
-    ensures most { array_vec_len text.new ≤ array_vec_len text.old + 43 }
-{
-    push_bytes(text, b"FAIL ERROR ");
-    push_bytes(text, words_of_fail(error));
+    push_bytes(text, first);
+    push_bytes(text, rest);
     push_bytes(text, b"\r\n");
 }
 
@@ -166,9 +133,7 @@ pub fn push_node(text: &mut Text, line: &[u8])
     ensures text { text.new.items ≡ text.old.items ++ node_text line.now }
     ensures len { array_vec_len text.new ≡ array_vec_len text.old + length line.now + 7 }
 {
-    push_bytes(text, b"NODE ");
-    push_bytes(text, line);
-    push_bytes(text, b"\r\n");
+    push_line(text, b"NODE ", line);
 }
 
 /// Appends the line of a train or a turnout, 2 bytes longer than the line.
