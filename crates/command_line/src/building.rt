@@ -62,7 +62,7 @@ fn optional<'a>(alloc: Global, argument: &Argument<'a>) -> Arg<'a>
         Kind::Flag => flag(alloc, argument.id),
         Kind::Single => option(alloc, argument.id, argument.value_name),
         Kind::Repeated => repeated(alloc, argument.id, argument.value_name),
-        Kind::Number { least, most } => {
+        Kind::Number(least, most) => {
             number(alloc, argument.id, argument.value_name, least, most)
         }
         Kind::Positional => positional(alloc, argument.id, argument.value_name),

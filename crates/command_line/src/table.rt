@@ -46,8 +46,8 @@ pub enum Kind {
     Single,
     /// `--ID VALUE`, as often as wanted.
     Repeated,
-    /// `--ID VALUE`, a number in this range.
-    Number { least: u32, most: u32 },
+    /// `--ID VALUE`, a number from the first to the second.
+    Number(u32, u32),
     /// `VALUE`, at its position.
     Positional,
 }

@@ -3,9 +3,14 @@ use Rattle.std.specs.Prelude.{ℕ, ◌≡◌, ◌==◌, ◌&&◌, Bool, true, fa
 use Rattle.std.specs.List.{AllZip, after_first, before_first, list_any}
 use Rattle.std.specs.Option.{unwrap_or}
 use Rattle.std.specs.Str.{bytes_eq}
-use Rattle.clap.specs.Words.{Text}
+use Rattle.clap.specs.Words.{Text, all_of, found_of, rows_of}
+use Rattle.clap.specs.declared.parser.matches.ArgMatches.{ArgMatches}
 use Rattle.command_line.specs.Values.{IsNumber}
 use Rattle.server_orders.specs.declared.share.Share.{Share}
+
+-- the values of a repeated option, if it is given
+abbrev pub all_given : ArgMatches → Text → Option (List Text)
+all_given found id = all_of id (rows_of (found_of found))
 
 abbrev pub is_equals_sign : ℕ → Bool
 is_equals_sign b = b == 61

@@ -1,9 +1,10 @@
 //! Parsing the command line of `lbserver`.
 ghost use Rattle.std.specs.Prelude.{◌≡◌, [], IfErr, IfOk, OnOk, codes, map, string_bytes};
 ghost use Rattle.std.specs.List.{list_all};
-ghost use Rattle.clap.specs.Words.{all_of, fault_of, first_of, found_of, one_of, rows_of};
+ghost use Rattle.clap.specs.Words.{fault_of, first_of, found_of, one_of, rows_of};
 ghost use Rattle.command_line.specs.Fault.{IsOfKind, IsUnmatched};
 ghost use Rattle.command_line.specs.Requests.{IsRequestedBy};
+ghost use Rattle.server_orders.specs.Shares.{all_given};
 ghost use Rattle.server_orders.specs.declared.words.ServerOrder.{ServerOrder as OrderValue};
 ghost use Rattle.server_orders.specs.ServerLine.{AreCompatible, AreCompatibleFor, AreHosts, AreSettings, IsDefaultOrder, IsNumberIfGiven, IsServerFault, IsServerOrder, IsServerOrderOf, is_host_byte, is_host_name, server_app};
 
@@ -68,10 +69,9 @@ pub fn not_utf8_server_text(alloc: Global) -> OrderFault
 /// Returns the names of the repeated option `--host`. One that is no host name is a fault.
 fn hosts(alloc: Global, found: &ArgMatches<'_>) -> Result<Vec<String>, OrderFault>
     ensures hosts { IfOk result
-        (λ hosts. AreHosts (all_of (codes "host") (rows_of (found_of found.now)))
+        (λ hosts. AreHosts (all_given found.now (codes "host"))
         (map (λ host. string_bytes host) hosts.items)) }
-    ensures fault { IfErr result
-        (IsUnmatched (AreHosts (all_of (codes "host") (rows_of (found_of found.now))))) }
+    ensures fault { IfErr result (IsUnmatched (AreHosts (all_given found.now (codes "host")))) }
 {
     let Some(names) = repeated(found, "host") else {
         return Ok(Vec::new(alloc));

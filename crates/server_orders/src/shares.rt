@@ -1,11 +1,10 @@
 //! The shares of packets that decoders miss: `--lose N` and `--lose NAME=N`.
 ghost use Rattle.std.specs.Prelude.{◌≡◌, ◌++◌, ◌∷◌, [], OnOk, IfErr, IfOk, MatchOption, Some, map, option_map};
 ghost use Rattle.std.specs.List.{list_any};
-ghost use Rattle.clap.specs.Words.{all_of, found_of, rows_of};
 ghost use Rattle.command_line.specs.Fault.{IsOfKind, IsUnmatched};
 ghost use Rattle.command_line.specs.Values.{HasNone, IsNumber};
 ghost use Rattle.std.specs.Prelude.{codes};
-ghost use Rattle.server_orders.specs.Shares.{AreShares, AreSharesOf, IsShare, are_distinct, decoder_in, decoder_of, is_same_decoder, number_in, share_for, share_of};
+ghost use Rattle.server_orders.specs.Shares.{all_given, AreShares, AreSharesOf, IsShare, are_distinct, decoder_in, decoder_of, is_same_decoder, number_in, share_for, share_of};
 
 use crate::share::Share;
 use crate::table::LBSERVER;
@@ -21,10 +20,8 @@ const MOST_LOST: u32 = 99;
 /// twice, is a fault.
 pub(crate) fn shares(alloc: Global, found: &ArgMatches<'_>) -> Result<Vec<Share>, OrderFault>
     ensures shares { IfOk result
-        (λ shares. AreShares (all_of (codes "lose") (rows_of (found_of found.now)))
-        shares.items) }
-    ensures fault { IfErr result
-        (IsUnmatched (AreShares (all_of (codes "lose") (rows_of (found_of found.now))))) }
+        (λ shares. AreShares (all_given found.now (codes "lose")) shares.items) }
+    ensures fault { IfErr result (IsUnmatched (AreShares (all_given found.now (codes "lose")))) }
 {
     let Some(values) = repeated(found, "lose") else {
         return Ok(Vec::new(alloc));

@@ -26,10 +26,7 @@ const ADDRESS: Argument<'static> = Argument {
 
 const PORT: Argument<'static> = Argument {
     id: "port",
-    kind: Kind::Number {
-        least: 0,
-        most: 65_535,
-    },
+    kind: Kind::Number(0, 65_535),
     value_name: "P",
     need: Need::Default("1234"),
     help: "The TCP port, 0 to 65535; with 0 a free one, which the line `listening` names",
@@ -53,10 +50,7 @@ const PROGRAMMER: Argument<'static> = Argument {
 
 const TURNS: Argument<'static> = Argument {
     id: "turns",
-    kind: Kind::Number {
-        least: 0,
-        most: 255,
-    },
+    kind: Kind::Number(0, 255),
     value_name: "T",
     need: Need::Optional,
     help: "Track turns after each message, 0 to 255; without it the track runs in real time",
@@ -64,10 +58,7 @@ const TURNS: Argument<'static> = Argument {
 
 const RATE: Argument<'static> = Argument {
     id: "rate",
-    kind: Kind::Number {
-        least: 1,
-        most: 100,
-    },
+    kind: Kind::Number(1, 100),
     value_name: "R",
     need: Need::Optional,
     help: "How many times as fast time passes, for track and trains, 1 to 100, without --turns; 1 without it",
@@ -75,10 +66,7 @@ const RATE: Argument<'static> = Argument {
 
 const CLIENTS: Argument<'static> = Argument {
     id: "clients",
-    kind: Kind::Number {
-        least: 0,
-        most: u32::MAX,
-    },
+    kind: Kind::Number(0, u32::MAX),
     value_name: "C",
     need: Need::Optional,
     help: "Ends once this many clients have disconnected, with 0 at once; without it there is no end",
@@ -110,10 +98,7 @@ const TIMES: Argument<'static> = Argument {
 
 const PAGE: Argument<'static> = Argument {
     id: "page",
-    kind: Kind::Number {
-        least: 0,
-        most: 65_535,
-    },
+    kind: Kind::Number(0, 65_535),
     value_name: "PORT",
     need: Need::Optional,
     help: "The TCP port of a page for browsers, to drive and to watch, 0 to 65535, 0 for a free one; without it there is none",
@@ -145,10 +130,7 @@ const LOSE: Argument<'static> = Argument {
 
 const SEED: Argument<'static> = Argument {
     id: "seed",
-    kind: Kind::Number {
-        least: 0,
-        most: u32::MAX,
-    },
+    kind: Kind::Number(0, u32::MAX),
     value_name: "S",
     need: Need::Default("0"),
     help: "What the draw of the missed packets begins with, 0 to 4294967295",

@@ -34,7 +34,7 @@ pub(crate) const STATION: ProgramText<'static, 'static> = ProgramText {
 
 const LINES: Argument<'static> = Argument {
     id: "lines",
-    kind: Kind::Number { least: 1, most: 8 },
+    kind: Kind::Number(1, 8),
     value_name: "N",
     need: Need::Default("1"),
     help: "The lines of the station, 1 to 8",
@@ -50,10 +50,7 @@ const FILE: Argument<'static> = Argument {
 
 const PORT: Argument<'static> = Argument {
     id: "port",
-    kind: Kind::Number {
-        least: 1,
-        most: 65_535,
-    },
+    kind: Kind::Number(1, 65_535),
     value_name: "P",
     need: Need::Required,
     help: "The TCP port on 127.0.0.1, 1 to 65535",
@@ -61,10 +58,7 @@ const PORT: Argument<'static> = Argument {
 
 const TURNS: Argument<'static> = Argument {
     id: "turns",
-    kind: Kind::Number {
-        least: 0,
-        most: 255,
-    },
+    kind: Kind::Number(0, 255),
     value_name: "T",
     need: Need::Default("1"),
     help: "Track turns after each byte, 0 to 255",
@@ -72,10 +66,7 @@ const TURNS: Argument<'static> = Argument {
 
 const READS: Argument<'static> = Argument {
     id: "reads",
-    kind: Kind::Number {
-        least: 1,
-        most: u32::MAX,
-    },
+    kind: Kind::Number(1, u32::MAX),
     value_name: "R",
     need: Need::Default("100000"),
     help: "The most reads of one connection",
@@ -83,10 +74,7 @@ const READS: Argument<'static> = Argument {
 
 const CONNECTIONS: Argument<'static> = Argument {
     id: "connections",
-    kind: Kind::Number {
-        least: 1,
-        most: 1000,
-    },
+    kind: Kind::Number(1, 1000),
     value_name: "C",
     need: Need::Default("1"),
     help: "How many connections are served, one after another, 1 to 1000",
