@@ -1,5 +1,5 @@
 -- Lines of text, and messages of one line each.
-use Rattle.std.specs.Prelude.{ℕ, ◌==◌, if◌then◌else◌, nat_lt, List, [], ◌∷◌, ◌++◌, length, map, take, bytes_eq}
+use Rattle.std.specs.Prelude.{ℕ, ◌≡◌, ◌==◌, if◌then◌else◌, nat_lt, List, [], ◌∷◌, ◌++◌, length, map, take, bytes_eq}
 
 -- the bytes held of a line after its next byte: its first 512
 abbrev pub held_after : List ℕ → ℕ → List ℕ
@@ -19,6 +19,13 @@ messages_along held (b ∷ text) =
 abbrev pub held_along : (held : List ℕ) → List ℕ → List ℕ
 held_along held [] = held
 held_along held (b ∷ text) = if b == 10 then held_along [] text else held_along (held_after held b) text
+
+-- the messages of the first n bytes that follow the bytes held, and that the bytes held after them are these
+abbrev pub messages_of_first : (n : ℕ) → (bytes held : List ℕ) → List (List ℕ)
+messages_of_first n bytes held = messages_along held (take n bytes)
+
+abbrev pub HoldsAfter : (bytes before after : List ℕ) → (n : ℕ) → Type 0
+HoldsAfter bytes before after n = after ≡ held_along before (take n bytes)
 
 -- a byte before the first line; nothing if no line ends
 abbrev pub onto_line : ℕ → List (List ℕ) → List (List ℕ)

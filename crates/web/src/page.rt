@@ -6,7 +6,7 @@ ghost use Rattle.tungstenite.specs.Failure.{IsIo};
 ghost use Rattle.tungstenite.specs.Socket.{Flushed, Reads, content_of};
 ghost use Rattle.websocket.specs.Content.{text};
 ghost use Rattle.web.specs.Receiving.{Receives, ReceivesNoText, ReceivesEnd, IsControl, IsForbidden};
-ghost use Rattle.web.specs.Messages.{held_along, messages_along, without_return};
+ghost use Rattle.web.specs.Messages.{HoldsAfter, messages_of_first, without_return};
 ghost use Rattle.web.specs.Sending.{IsPinged, IsSent, Queues, QueuesAll, QueuesPing};
 
 use crate::lines::{LONGEST_LINE, ReceivedLine, UnfinishedLine};
@@ -185,11 +185,9 @@ impl<S: Read + Write + Drop> Page<S> {
     pub fn write_lines(&mut self, bytes: &[u8]) -> io::Result<usize>
         ensures bound { IfOk result (λ n. n ≤ length bytes.now) }
         ensures some { IfOk result (λ n. 0 < length bytes.now → 0 < n) }
-        ensures held { IfOk result
-            (λ n. self.new.unfinished ≡ held_along self.old.unfinished (take n bytes.now)) }
+        ensures held { IfOk result (HoldsAfter bytes.now self.old.unfinished self.new.unfinished) }
         ensures sent { IfOk result (λ n. IsSent (λ s. S.contents s.stream)
-            (messages_along self.old.unfinished (take n bytes.now)) self.old.socket
-            self.new.socket) }
+            (messages_of_first n bytes.now self.old.unfinished) self.old.socket self.new.socket) }
         // Otherwise some queued bytes were sent and none were added: these bytes may be written
         // again.
         ensures full { IfErr result
@@ -295,11 +293,9 @@ impl<S: Read + Write + Drop> Page<S> {
     fn take(&mut self, bytes: &[u8]) -> io::Result<usize>
         ensures bound { IfOk result (λ n. n ≤ length bytes.now) }
         ensures some { IfOk result (λ n. 0 < length bytes.now → 0 < n) }
-        ensures held { IfOk result
-            (λ n. self.new.unfinished ≡ held_along self.old.unfinished (take n bytes.now)) }
+        ensures held { IfOk result (HoldsAfter bytes.now self.old.unfinished self.new.unfinished) }
         ensures sent { IfOk result (λ n. QueuesAll (λ s. S.contents s.stream)
-            (messages_along self.old.unfinished (take n bytes.now)) self.old.socket
-            self.new.socket) }
+            (messages_of_first n bytes.now self.old.unfinished) self.old.socket self.new.socket) }
         ensures full { IfErr result (λ e. error_kind e ≡ ErrorKind.WouldBlock
             → (self.new.unfinished ≡ self.old.unfinished) × (self.new.socket ≡ self.old.socket)) }
         ensures utf8 { IfErr result (λ e. error_kind e ≡ ErrorKind.WouldBlock
