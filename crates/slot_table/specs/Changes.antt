@@ -1,11 +1,11 @@
 -- The steps that the operations on slots are made of.
-use Rattle.std.specs.Prelude.{ℕ, ◌≡◌, ◌==◌, Bool, if◌then◌else◌, Option, Some, None, Result, Ok, Err, IfOk, OnErr}
+use Rattle.std.specs.Prelude.{ℕ, ◌==◌, Bool, if◌then◌else◌, Option, Some, None, Result, Ok, Err}
 use Rattle.std.specs.Ordering.{nat_cmp}
 use Rattle.std.specs.FinMap.{FinMap, get, insert, remove}
 use Rattle.slot_table.specs.declared.fault.SlotFault.{SlotFault}
 use Rattle.slot_table.specs.declared.fault.SlotFault.TheVariants.{Illegal}
-use Rattle.slot_table.specs.Entry.{Entry, IsSlot}
-use Rattle.slot_table.specs.Desk.{Desk, IsDesk}
+use Rattle.slot_table.specs.Entry.{Entry}
+use Rattle.slot_table.specs.Desk.{Desk}
 
 -- what a call answers that only says whether it was done
 abbrev pub done_if : Bool → Result (Unit {0}) SlotFault
@@ -48,11 +48,3 @@ change_at desk f (Some a) = change_entry desk a f (get desk.asked a)
 -- the entry of the slot's address is changed; nothing is, where the slot is free
 abbrev pub changed : Desk → ℕ → (Entry → Entry) → Desk
 changed desk n f = change_at desk f (get desk.place n)
-
--- a call that gives a slot: its answer and the desk after it, which is as before where it is refused
-pub record GivesSlot (wanted : Result ℕ SlotFault) (made before now : Desk) (result : Result ℕ SlotFault) : Type 0 where
-  pub answer : result ≡ wanted
-  pub slot : IfOk result IsSlot
-  pub after : now ≡ made
-  pub refused : OnErr result (now ≡ before)
-  pub desk : IsDesk now

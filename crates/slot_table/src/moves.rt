@@ -1,10 +1,11 @@
 //! What OPC_MOVE_SLOTS does: null move, dispatch put, dispatch get, and the move of a slot.
 ghost use Rattle.std.specs.Prelude.{◌≡◌, ◌≢◌, IfOk, OnOk, OnErr, true};
 ghost use Rattle.slot_table.specs.{is_held};
+ghost use Rattle.slot_table.specs.Answers.{GivesSlot};
 ghost use Rattle.slot_table.specs.Entry.{IsSlot};
 ghost use Rattle.slot_table.specs.Desk.{IsDesk};
 ghost use Rattle.slot_table.specs.Reading.{is_placed};
-ghost use Rattle.slot_table.specs.Changes.{GivesSlot, changed, slot_if};
+ghost use Rattle.slot_table.specs.Changes.{changed, slot_if};
 ghost use Rattle.slot_table.specs.Moves.{after_null_move, after_dispatch_put, dispatch_get_answer, after_dispatch_get, may_move, can_shift, after_shift};
 
 use crate::bytes::is_slot;
