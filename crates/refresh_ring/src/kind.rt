@@ -21,11 +21,6 @@ impl Kind {
         ensures number { result ≡ number_of self }
         ensures range { result < kinds }
     {
-        match self {
-            Kind::Speed => 0,
-            Kind::GroupOne => 1,
-            Kind::GroupTwo => 2,
-            Kind::GroupThree => 3,
-        }
+        self as u16
     }
 }
