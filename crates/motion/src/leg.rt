@@ -31,24 +31,13 @@ impl Velocity {
         let Some(momentum) = drive.momentum else {
             return steady(drive.forward, drive.speed, micros);
         };
+        let (forward, target) = (drive.forward, drive.speed);
         if !self.is_facing(drive) {
             falling(self.forward, self.speed, 0, momentum.braking, micros)
         } else if self.speed < drive.speed {
-            rising(
-                drive.forward,
-                self.speed,
-                drive.speed,
-                momentum.acceleration,
-                micros,
-            )
+            rising(forward, self.speed, target, momentum.acceleration, micros)
         } else if self.speed > drive.speed {
-            falling(
-                drive.forward,
-                self.speed,
-                drive.speed,
-                momentum.braking,
-                micros,
-            )
+            falling(forward, self.speed, target, momentum.braking, micros)
         } else {
             steady(drive.forward, drive.speed, micros)
         }
