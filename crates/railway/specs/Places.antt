@@ -1,5 +1,5 @@
 -- Places on the track. A block of n femtometres has the femtometres 0 to n - 1, from end A on.
-use Rattle.std.specs.Prelude.{ℕ, ◌+◌, ◌-◌, ◌*◌, ◌==◌, ◌&&◌, Bool, nat_lt, if◌then◌else◌, List, length, is_some}
+use Rattle.std.specs.Prelude.{ℕ, ◌+◌, ◌-◌, ◌*◌, ◌==◌, ◌&&◌, Bool, min, nat_lt, if◌then◌else◌, List, length, is_some}
 use Rattle.railway.specs.declared.block.Block.{Block}
 use Rattle.railway.specs.declared.block.BlockEnd.{BlockEnd}
 use Rattle.railway.specs.declared.block.End.{End}
@@ -20,6 +20,12 @@ left_to B length at = length - 1 - at
 -- how many femtometres lie ahead in the block
 abbrev pub to_end : (length : ℕ) → Place → ℕ
 to_end length place = left_to place.toward length place.at
+
+-- How far a place is from end a, in femtometres, at most 2 ^ 64 - 1. Its own femtometre counts if it
+-- faces end b.
+abbrev pub way_from_a : (facing : End) → (at : ℕ) → ℕ
+way_from_a A at = at
+way_from_a B at = min (at + 1) 0xFFFFFFFFFFFFFFFF
 
 abbrev pub moved_to : End → (at way : ℕ) → ℕ
 moved_to A at way = at - way

@@ -14,7 +14,7 @@ pub type Name = ArrayString<LONGEST_NAME>;
 pub const LONGEST_BLOCK: u32 = 100_000;
 
 /// The femtometres of a millimetre.
-pub(crate) const MILLIMETRE: u64 = 1_000_000_000_000;
+pub const MILLIMETRE: u64 = 1_000_000_000_000;
 
 /// A point of a drawing of the plan.
 #[derive(Clone, Copy, PartialEq, Eq)]

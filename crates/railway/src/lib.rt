@@ -43,7 +43,9 @@ mod track;
 mod train;
 mod turnout_report;
 
-pub use block::{Block, BlockEnd, End, LONGEST_BLOCK, LONGEST_NAME, Name, Point, block_name};
+pub use block::{
+    Block, BlockEnd, End, LONGEST_BLOCK, LONGEST_NAME, MILLIMETRE, Name, Point, block_name,
+};
 pub use block_set::BlockSet;
 pub use conflict::{Conflict, Conflicts};
 pub use exit::Exit;

@@ -1,7 +1,7 @@
 //! Trains.
 ghost use Rattle.std.specs.Prelude.{◌≡◌, ◌≤◌, ◌<◌, ◌+◌, ◌^◌, IsTrue};
 ghost use Rattle.motion.specs.Velocity.{is_drive, is_momentum};
-ghost use Rattle.railway.specs.Places.{end_ahead, further, is_derailed, leading_end, moved, same_place, span, still, to_end, turned, turned_place};
+ghost use Rattle.railway.specs.Places.{end_ahead, further, is_derailed, leading_end, moved, same_place, span, still, to_end, turned, turned_place, way_from_a};
 ghost use Rattle.railway.specs.Trains.{default_state, default_train, drive_of, is_forward, momentum_of, speed_at, speed_of};
 
 use crate::block::{BlockEnd, End, MILLIMETRE};
@@ -90,6 +90,16 @@ impl Place {
         match self.toward {
             End::A => self.at,
             End::B => length.saturating_sub(1).saturating_sub(self.at),
+        }
+    }
+
+    /// Returns how far it is from end A, in femtometres, with its own femtometre if end B is ahead.
+    pub fn way_from_a(self) -> u64
+        ensures way { result ≡ way_from_a self.toward self.at }
+    {
+        match self.toward {
+            End::A => self.at,
+            End::B => self.at.saturating_add(1),
         }
     }
 

@@ -1,22 +1,14 @@
 -- Where a train is, as clients and pages are told of it (own).
-use Rattle.std.specs.Prelude.{ℕ, ◌+◌, ◌/◌, ◌==◌, ◌&&◌, min, Bool, if◌then◌else◌, List, [], ◌++◌, Option, Some, None, codes, slice_get}
+use Rattle.std.specs.Prelude.{ℕ, ◌/◌, ◌==◌, ◌&&◌, min, Bool, if◌then◌else◌, List, [], ◌++◌, Option, Some, None, codes, slice_get}
 use Rattle.std.specs.Fmt.{decimal}
 use Rattle.railway.specs.declared.block.Block.{Block}
-use Rattle.railway.specs.declared.block.End.{End}
-use Rattle.railway.specs.declared.block.End.TheVariants.{A, B}
 use Rattle.railway.specs.declared.train.Place.{Place}
 use Rattle.railway.specs.declared.train.TrainState.{TrainState}
 use Rattle.railway.specs.Blocks.{same_end}
-use Rattle.railway.specs.Places.{is_derailed}
+use Rattle.railway.specs.Places.{is_derailed, way_from_a}
 use Rattle.railway.specs.Turnouts.{same_bool}
 use Rattle.railway_text.specs.declared.train_place.TrainPlace.{TrainPlace}
 use Rattle.railway_text.specs.Words.{letter_of, name_in}
-
--- How far a front is from end a, in femtometres, at most 2 ^ 64 - 1. Its own femtometre counts if it
--- faces end b.
-abbrev pub way_from_a : (facing : End) → (at : ℕ) → ℕ
-way_from_a A at = at
-way_from_a B at = min (at + 1) 0xFFFFFFFFFFFFFFFF
 
 -- the tenths of a block that lie on that way, at most ten: a tenth of a millimetre has 10 ^ 11
 -- femtometres

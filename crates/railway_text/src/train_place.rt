@@ -1,6 +1,6 @@
 //! Where a train is.
 ghost use Rattle.std.specs.Prelude.{◌≡◌, ◌≤◌, ◌/◌, length, min, slice_get};
-ghost use Rattle.railway_text.specs.TrainPlace.{place_of, same_train_place, tenths_of, train_line, way_from_a};
+ghost use Rattle.railway_text.specs.TrainPlace.{place_of, same_train_place, tenths_of, train_line};
 
 use crate::words::{StateLine, letter_of};
 use railway::{Block, End, Place, TrainState, block_name};
@@ -80,20 +80,10 @@ impl TrainPlace {
 fn tenths_of(blocks: &[Block], front: Place) -> u8
     ensures { result ≡ tenths_of blocks.now front }
 {
-    let way = way_from_a(front);
+    let way = front.way_from_a();
     match blocks.get(usize::from(front.block)) {
         Some(block) => tenths_in(block, way),
         None => 0,
-    }
-}
-
-/// Returns how far a front is from end A, in femtometres.
-fn way_from_a(front: Place) -> u64
-    ensures { result ≡ way_from_a front.toward front.at }
-{
-    match front.toward {
-        End::A => front.at,
-        End::B => front.at.saturating_add(1),
     }
 }
 
