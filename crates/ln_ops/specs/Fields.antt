@@ -18,8 +18,17 @@ pub record SlotBytes : Type 0 where
 -- these bytes, in the order of the message
 abbrev pub slot_bytes : (slot stat adr spd dirf trk ss2 adr2 snd id1 id2 : ℕ) → SlotBytes
 slot_bytes slot stat adr spd dirf trk ss2 adr2 snd id1 id2 = record {
-  slot = slot; stat = stat; adr = adr; spd = spd; dirf = dirf; trk = trk;
-  ss2 = ss2; adr2 = adr2; snd = snd; id1 = id1; id2 = id2;
+  slot = slot;
+  stat = stat;
+  adr = adr;
+  spd = spd;
+  dirf = dirf;
+  trk = trk;
+  ss2 = ss2;
+  adr2 = adr2;
+  snd = snd;
+  id1 = id1;
+  id2 = id2;
 }
 
 -- each is a byte of data

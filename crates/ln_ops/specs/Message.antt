@@ -57,8 +57,8 @@ four_of opcode first second =
     if opcode == 0xA0 then Speed first second else
     (if opcode == 0xA1 then Dirf first second else
     (if opcode == 0xA2 then Snd first second else
-    (if opcode == 0xB0 then switch_of false first second else
-    (if opcode == 0xBD then switch_of true first second else
+    (if opcode == 0xB0 then SwReq (switch_number first second) (is_closed second) (is_on second) else
+    (if opcode == 0xBD then SwAck (switch_number first second) (is_closed second) (is_on second) else
     (if opcode == 0xB4 then LongAck first second else
     (if opcode == 0xB5 then SlotStat first second else
     (if opcode == 0xBA then Move first second else

@@ -273,17 +273,18 @@ fn im_byte(top: u8, low: u8) -> u8
 pub fn im_bytes(op: Op) -> [u8; 5]
     ensures { result ≡ im_bytes_of op }
 {
-    match op {
-        Op::Imm {
-            im1,
-            im2,
-            im3,
-            im4,
-            im5,
-            ..
-        } => [im1, im2, im3, im4, im5],
-        _ => [0; 5],
-    }
+    let Op::Imm {
+        im1,
+        im2,
+        im3,
+        im4,
+        im5,
+        ..
+    } = op
+    else {
+        return [0; 5];
+    };
+    [im1, im2, im3, im4, im5]
 }
 
 /// The slot data of a message that carries it.
