@@ -1,4 +1,5 @@
 pub mod Responses
+pub mod HeadParts
 pub mod Heads
 pub mod Receiving
 pub mod Lines

@@ -19,6 +19,7 @@
 #![tactic(auto)]
 
 mod exchange;
+mod head;
 mod http_response;
 pub mod laws;
 mod lines;

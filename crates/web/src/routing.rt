@@ -4,9 +4,11 @@ ghost use Rattle.httparse.specs.Spans.{IsRequestWithin, span_bytes};
 ghost use Rattle.websocket.specs.Headers.{fields_of};
 ghost use Rattle.web.specs.declared.http_response.Response.TheVariants.{Incomplete};
 ghost use Rattle.web.specs.Responses.{IsResponse, unfinished};
+ghost use Rattle.web.specs.HeadParts.{IsWithin, OfParts};
 ghost use Rattle.web.specs.Heads.{HasUpgraded, IsFullResponseTo, IsResponseTo, IsResponseToHost, is_get, is_head, without_content};
 ghost use Rattle.web.specs.Lines.{whole_lines};
 
+use crate::head::Head;
 use crate::http_response::{HttpError, Response, UpgradeRequest};
 use crate::origin::{host, is_own_host, is_same_origin};
 use httparse::Status;
@@ -43,7 +45,14 @@ pub fn response(names: &[String], text: &[u8]) -> Response
     let lines = whole_lines(&text[..text.len().min(MAX_HEAD)]);
     let mut spans = [EMPTY_HEADER_SPAN; ROOM];
     match parse_request(lines, &mut spans) {
-        Ok(Status::Complete(request)) => route(names, lines, &request, &spans),
+        Ok(Status::Complete(request)) => {
+            let head = Head {
+                lines,
+                request: &request,
+                spans: &spans,
+            };
+            route(names, &head)
+        }
         Ok(Status::Partial) => unfinished(text),
         Err(_) => Response::Error(HttpError::BadRequest),
     }
@@ -71,17 +80,14 @@ fn whole_lines(text: &[u8]) -> &[u8]
 }
 
 /// The response to a whole head.
-fn route(names: &[String], lines: &[u8], request: &RequestSpans, spans: &[HeaderSpan]) -> Response
-    requires { IsRequestWithin lines.now spans.now request.now }
-    ensures response { IsResponseTo (map (λ name. string_bytes name) names.now)
-        (span_bytes lines.now request.now.method)
-        (span_bytes lines.now request.now.path)
-        request.now.version (fields_of lines.now (take request.now.headers spans.now))
-        request.now.len result }
+fn route(names: &[String], head: &Head<'_>) -> Response
+    requires { IsWithin head.now }
+    ensures response { OfParts IsResponseTo (map (λ name. string_bytes name) names.now) head.now
+        result }
     ensures now { result ≢ Incomplete }
 {
-    let response = full_response(names, lines, request, spans);
-    if is_head(request.method.of(lines)) {
+    let response = full_response(names, head);
+    if is_head(head.request.method.of(head.lines)) {
         without_content(response)
     } else {
         response
@@ -114,57 +120,43 @@ fn is_head(method: &[u8]) -> bool
 }
 
 /// The response to a whole head, with its content.
-fn full_response(
-    names: &[String],
-    lines: &[u8],
-    request: &RequestSpans,
-    spans: &[HeaderSpan],
-) -> Response
-    requires { IsRequestWithin lines.now spans.now request.now }
-    ensures response { IsFullResponseTo (map (λ name. string_bytes name) names.now)
-        (span_bytes lines.now request.now.method)
-        (span_bytes lines.now request.now.path)
-        request.now.version (fields_of lines.now (take request.now.headers spans.now))
-        request.now.len result }
+fn full_response(names: &[String], head: &Head<'_>) -> Response
+    requires { IsWithin head.now }
+    ensures response { OfParts IsFullResponseTo (map (λ name. string_bytes name) names.now) head.now
+        result }
     ensures now { result ≢ Incomplete }
 {
-    let path = request.path.of(lines);
-    if request.headers > MAX_FIELDS {
+    let path = head.request.path.of(head.lines);
+    let method = head.request.method.of(head.lines);
+    if head.request.headers > MAX_FIELDS {
         Response::Error(HttpError::TooLong)
     } else if path != b"/".as_slice() && path != b"/bus".as_slice() {
         Response::Error(HttpError::NotFound)
-    } else if !is_get(request.method.of(lines)) && !is_head(request.method.of(lines)) {
+    } else if !is_get(method) && !is_head(method) {
         Response::Error(HttpError::MethodNotAllowed)
     } else {
-        route_host(names, lines, request, spans)
+        route_host(names, head)
     }
 }
 
 /// The response to a head that only its host or its origin can reject.
-fn route_host(
-    names: &[String],
-    lines: &[u8],
-    request: &RequestSpans,
-    spans: &[HeaderSpan],
-) -> Response
-    requires { IsRequestWithin lines.now spans.now request.now }
-    ensures response { IsResponseToHost (map (λ name. string_bytes name) names.now)
-        (span_bytes lines.now request.now.method)
-        (span_bytes lines.now request.now.path)
-        request.now.version (fields_of lines.now (take request.now.headers spans.now))
-        request.now.len result }
+fn route_host(names: &[String], head: &Head<'_>) -> Response
+    requires { IsWithin head.now }
+    ensures response { OfParts IsResponseToHost (map (λ name. string_bytes name) names.now) head.now
+        result }
     ensures now { result ≢ Incomplete }
 {
-    let fields = &spans[..request.headers];
+    let lines = head.lines;
+    let fields = &head.spans[..head.request.headers];
     let Some(host) = host(lines, fields) else {
         return Response::Error(HttpError::BadRequest);
     };
     if !is_own_host(names, host) {
         Response::Error(HttpError::Misdirected)
-    } else if request.path.of(lines) == b"/".as_slice() {
+    } else if head.request.path.of(lines) == b"/".as_slice() {
         Response::Page
     } else if is_same_origin(host, lines, fields) {
-        upgrade_of(lines, request, spans)
+        upgrade_of(lines, head.request, head.spans)
     } else {
         Response::Error(HttpError::Forbidden)
     }
