@@ -114,7 +114,11 @@ impl Bus {
                 packet: packet.packet(),
                 change: *change,
             },
-            Event::Elapses { micros, missed } => self.elapse(*micros, *missed),
+            Event::Elapses { micros, .. } if self.remaining > u32::from(*micros) => {
+                self.remaining -= u32::from(*micros);
+                Outcome::Nothing
+            }
+            Event::Elapses { micros, missed } => self.begin_turn(u32::from(*micros), *missed),
             Event::Turn { missed } => self.begin_turn(self.remaining, *missed),
         }
     }
@@ -199,25 +203,6 @@ impl Bus {
     {
         (self.options.has_sensors && is_interrogation(message))
             || (self.options.has_programmer && is_for_programmer(message))
-    }
-
-    /// Lets `micros` microseconds elapse.
-    fn elapse(&mut self, micros: u16, missed: u64) -> Outcome
-        requires { micros ≤ 5796 }
-        ensures bus { bus_state self.new
-            ≡ after_event (bus_state self.old) (Event.Elapses micros missed) }
-        ensures outcome { result ≡ outcome_of (bus_state self.old) (Event.Elapses micros missed) }
-        ensures nodes { HaveHeard self.old.world.station
-            (layout_event (bus_state self.old) (Event.Elapses micros missed)) self.old.world.nodes
-            self.new.world.nodes }
-        ensures same { IsSameLayout self.old.world self.new.world }
-    {
-        let micros = u32::from(micros);
-        if self.remaining <= micros {
-            return self.begin_turn(micros, missed);
-        }
-        self.remaining -= micros;
-        Outcome::Nothing
     }
 
     /// Ends the current turn within these microseconds, and begins the next one where it ends.

@@ -94,36 +94,30 @@ impl Outcome {
     /// Appends the lines that a client receives of the event, at most 789 bytes.
     ///
     /// The caller sends them to connected clients only.
-    pub fn push_text_for(&self, client: u8, text: &mut Text)
+    pub fn push_text_for(&self, receiver: u8, text: &mut Text)
         requires { array_vec_len text.old + 789 ≤ 800 }
-        ensures text { text.new.items ≡ text.old.items ++ text_for client self.now }
+        ensures text { text.new.items ≡ text.old.items ++ text_for receiver self.now }
         ensures most { array_vec_len text.new ≤ array_vec_len text.old + 789 }
     {
         match self {
-            Outcome::Connected { client: newcomer } if *newcomer == client => push_version(text),
-            Outcome::Rejected {
-                client: asker,
-                reason,
-            } if *asker == client => push_sent_error(text, *reason),
-            Outcome::TurnsRequested {
-                client: asker,
-                turns,
-            } if *asker == client => push_turns(text, turns),
-            Outcome::Placed {
-                client: asker,
-                answer,
-            } if *asker == client => push_place(text, answer),
-            Outcome::DeviceAnswered {
-                client: asker,
-                answer,
-            } if *asker == client => push_device(text, *answer),
+            Outcome::Connected { client } if *client == receiver => push_version(text),
+            Outcome::Rejected { client, reason } if *client == receiver => {
+                push_sent_error(text, *reason);
+            }
+            Outcome::TurnsRequested { client, turns } if *client == receiver => {
+                push_turns(text, turns);
+            }
+            Outcome::Placed { client, answer } if *client == receiver => push_place(text, answer),
+            Outcome::DeviceAnswered { client, answer } if *client == receiver => {
+                push_device(text, *answer);
+            }
             Outcome::Sent {
-                client: sender,
+                client,
                 message,
                 reply,
             } => {
                 push_receive(text, message);
-                if *sender == client {
+                if *client == receiver {
                     push_sent_ok(text);
                 }
                 if let Some(reply) = reply {
