@@ -248,7 +248,8 @@ impl Answers {
         text
     }
 
-    /// Returns the line of a decoder, without its first word and its line end.
+    /// Returns the line of a decoder, without its first word and its line end: its name, its address and how it runs or
+    /// how its outputs are, as `station` prints it (`decoder_line`).
     fn node_line(&self, decoder: usize, world: &World) -> Line
         requires specs { specs_of self.now.nodes.items ≡ map spec_of world.now.nodes }
         requires decoder { decoder < length (names_of self.now.nodes.items) }
