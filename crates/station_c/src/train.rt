@@ -1,11 +1,8 @@
 //! Where a train is, for C.
 ghost use Rattle.std.specs.Prelude.{◌≡◌};
-ghost use Rattle.station_c.specs.Train.{millimetres_from_a, told};
+ghost use Rattle.station_c.specs.Train.{told};
 
-use railway::{End, Place, TrainState};
-
-/// A millimetre, in femtometres.
-const MILLIMETRE: u64 = 1_000_000_000_000;
+use railway::{End, MILLIMETRE, TrainState};
 
 /// Where a train is, and how fast it runs.
 #[repr(C)]
@@ -30,22 +27,11 @@ pub(crate) fn told(train: &TrainState, speed: u32) -> Train
     ensures { result ≡ told train.now speed }
 {
     Train {
-        front: millimetres_from_a(train.front),
+        front: (train.front.way_from_a() / MILLIMETRE) as u32,
         speed,
         derailed_at: train.derailed_at.unwrap_or(0),
         block: train.front.block,
         rear_block: train.rear.block,
         faces_b: train.front.toward == End::B,
     }
-}
-
-/// Returns how far a place is from end A, with its own femtometre if end B is ahead.
-fn millimetres_from_a(place: Place) -> u32
-    ensures { result ≡ millimetres_from_a place.toward place.at }
-{
-    let way = match place.toward {
-        End::A => place.at,
-        End::B => place.at.saturating_add(1),
-    };
-    (way / MILLIMETRE) as u32
 }
