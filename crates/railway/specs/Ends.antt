@@ -1,23 +1,10 @@
 -- Which ends of blocks joints and turnouts name.
-use Rattle.std.specs.Prelude.{ℕ, ◌&&◌, ◌++◌, Bool, false, true, not, nat_lt, if◌then◌else◌, List, [], ◌∷◌, Option, Some, None}
+use Rattle.std.specs.Prelude.{ℕ, ◌&&◌, ◌++◌, Bool, true, not, nat_lt, if◌then◌else◌, List, [], ◌∷◌, Option, Some, None}
 use Rattle.std.specs.List.{list_any}
 use Rattle.railway.specs.declared.block.BlockEnd.{BlockEnd}
 use Rattle.railway.specs.declared.joint.Joint.{Joint}
 use Rattle.railway.specs.declared.joint.Turnout.{Turnout}
-use Rattle.railway.specs.Blocks.{default_end, same_block_end}
-
-abbrev pub default_joint : Joint
-default_joint = record { one = default_end; two = default_end }
-
-abbrev pub default_turnout : Turnout
-default_turnout = record {
-  switch = 0;
-  common = default_end;
-  closed = default_end;
-  thrown = default_end;
-  time = 0;
-  has_feedback = false;
-}
+use Rattle.railway.specs.Blocks.{same_block_end}
 
 -- the end is one of a block of the plan
 abbrev pub is_end : (blocks : ℕ) → BlockEnd → Bool
