@@ -1,3 +1,4 @@
+pub mod ChangeLines
 pub mod Lines
 pub mod Listening
 pub mod LogQueues

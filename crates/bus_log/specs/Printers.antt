@@ -6,7 +6,8 @@ use Rattle.layout_core.specs.DecoderStates.{decoder_state_of}
 use Rattle.bus.specs.declared.outcome.Outcome.{Outcome}
 use Rattle.railway.specs.Railway.{RailwayState}
 use Rattle.bus_log.specs.declared.printer.Printer.{Printer}
-use Rattle.roster.specs.Decoders.{entries_of}
+use Rattle.decoder_node.specs.declared.node.NodeSpec.{NodeSpec}
+use Rattle.roster.specs.Decoders.{entries_of, specs_of}
 use Rattle.bus_log.specs.Lines.{PrinterState, lines_of}
 use Rattle.bus_log.specs.RailwayLines.{railway_lines}
 use Rattle.bus_log.specs.declared.turn_times.TurnTimes.{TurnTimes}
@@ -17,6 +18,10 @@ use Rattle.bus_log.specs.Verbosities.{has_times, prints_packets}
 
 abbrev pub printer_state : Printer → PrinterState
 printer_state printer = record { turns = printer.turns; times = printer.times; decoder_states = printer.decoder_states.items; trains = printer.trains.items }
+
+-- the decoders of its roster
+abbrev pub decoder_specs_of : Printer → List NodeSpec
+decoder_specs_of printer = specs_of (entries_of printer.roster)
 
 -- each line that follows begins with the time at which this turn began, if lines have times
 abbrev pub log_at : Verbosity → TurnTimes → LogState → LogState

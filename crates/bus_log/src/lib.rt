@@ -9,6 +9,7 @@
 //! ```
 #![tactic(auto)]
 
+mod change;
 mod exchanges;
 mod laws;
 mod line_queue;

@@ -1,5 +1,5 @@
 //! Printing the outcomes of a bus.
-ghost use Rattle.std.specs.Prelude.{◌≡◌, ◌/◌, None, List, [], ◌∷◌, length, map, option_copied};
+ghost use Rattle.std.specs.Prelude.{◌≡◌, ◌/◌, None, List, [], ◌∷◌, length, map, not, option_copied};
 ghost use Rattle.dcc_packet.specs.Sent.{idle_bytes};
 ghost use Rattle.layout_core.specs.Nodes.{spec_of};
 ghost use Rattle.layout_core.specs.DecoderStates.{decoder_state_of};
@@ -51,6 +51,7 @@ pub struct Printer<'a> {
 }
 
 impl<'a> Printer<'a> {
+    ghost use Rattle.bus_log.specs.Verbosities.{is_quiet};
     ghost use Rattle.bus_log.specs.Printers.{log_at, observed_lines, outcome_lines, printer_state, decoder_states_of};
     ghost use Rattle.bus_log.specs.RailwayLines.{railway_lines};
     ghost use Rattle.bus_log.specs.Lines.{initial_printer_state, printer_state_after};
@@ -175,7 +176,9 @@ impl<'a> Printer<'a> {
     }
 
     /// Lets each line that follows begin with the time at which this turn began, if lines have times.
-    fn begin_lines(&mut self, times: TurnTimes)
+    /// Returns whether lines are printed: a quiet log has none.
+    fn begin_lines(&mut self, times: TurnTimes) -> bool
+        ensures printed { result ≡ not (is_quiet self.old.verbosity) }
         ensures log { self.new.log ≡ log_at self.old.verbosity times self.old.log }
         ensures printer_state { printer_state self.new ≡ printer_state self.old }
         ensures roster { self.new.roster ≡ self.old.roster }
@@ -184,6 +187,7 @@ impl<'a> Printer<'a> {
         if self.verbosity.has_times() {
             self.log.begin_with(time_stamp(times.began / 1_000));
         }
+        !self.verbosity.is_quiet()
     }
 
     /// Counts a turn, and keeps the states of the decoders after it, and the trains.
@@ -207,12 +211,12 @@ impl<'a> Printer<'a> {
 
 impl Observer for Printer<'_> {
     ghost use Rattle.bus_log.specs.Verbosities.{is_quiet};
-    ghost use Rattle.bus_log.specs.Printers.{log_at, printer_state, decoder_states_of, observed_lines};
+    ghost use Rattle.bus_log.specs.Printers.{decoder_specs_of, log_at, printer_state, decoder_states_of, observed_lines};
     ghost use Rattle.bus_log.specs.Lines.{printer_state_after};
 
     type Fault = Infallible;
 
-    ghost decoder_specs = { λ printer. specs_of (entries_of printer.roster) };
+    ghost decoder_specs = { decoder_specs_of };
 
     ghost observed = { λ _. None };
 
@@ -233,13 +237,11 @@ impl Observer for Printer<'_> {
         ensures printer_state { printer_state self.new
             ≡ printer_state_after (printer_state self.old) outcome.now
             (decoder_states_of world.now.nodes) (trains_of (option_copied railway.entry)) }
-        ensures decoder_specs { specs_of (entries_of self.new.roster)
-            ≡ specs_of (entries_of self.old.roster) }
+        ensures decoder_specs { decoder_specs_of self.new ≡ decoder_specs_of self.old }
         ensures roster { self.new.roster ≡ self.old.roster }
         ensures verbosity { self.new.verbosity ≡ self.old.verbosity }
     {
-        self.begin_lines(times_after(self.times, outcome));
-        if !self.verbosity.is_quiet() {
+        if self.begin_lines(times_after(self.times, outcome)) {
             self.print_observed(outcome, world, railway);
         }
         self.update(outcome, world, railway);
@@ -252,13 +254,11 @@ impl Observer for Printer<'_> {
             ≡ after_lines (log_at self.old.verbosity self.old.times self.old.log)
             (lines_unless (is_quiet self.old.verbosity) (overflow_line client ∷ [])) }
         ensures printer_state { printer_state self.new ≡ printer_state self.old }
-        ensures decoder_specs { specs_of (entries_of self.new.roster)
-            ≡ specs_of (entries_of self.old.roster) }
+        ensures decoder_specs { decoder_specs_of self.new ≡ decoder_specs_of self.old }
         ensures roster { self.new.roster ≡ self.old.roster }
         ensures verbosity { self.new.verbosity ≡ self.old.verbosity }
     {
-        self.begin_lines(self.times);
-        if !self.verbosity.is_quiet() {
+        if self.begin_lines(self.times) {
             print_client(&mut self.log, client, " is too slow");
         }
         Ok(())
@@ -270,13 +270,11 @@ impl Observer for Printer<'_> {
             ≡ after_lines (log_at self.old.verbosity self.old.times self.old.log)
             (lines_unless (is_quiet self.old.verbosity) (skipped_line (micros / 1000) ∷ [])) }
         ensures printer_state { printer_state self.new ≡ printer_state self.old }
-        ensures decoder_specs { specs_of (entries_of self.new.roster)
-            ≡ specs_of (entries_of self.old.roster) }
+        ensures decoder_specs { decoder_specs_of self.new ≡ decoder_specs_of self.old }
         ensures roster { self.new.roster ≡ self.old.roster }
         ensures verbosity { self.new.verbosity ≡ self.old.verbosity }
     {
-        self.begin_lines(self.times);
-        if !self.verbosity.is_quiet() {
+        if self.begin_lines(self.times) {
             self.log
                 .print_count("slept ", micros / 1000, " ms, left out");
         }

@@ -4,8 +4,10 @@ ghost use Rattle.railway.specs.Blocks.{block_name};
 ghost use Rattle.railway.specs.Conflicts.{first_in};
 ghost use Rattle.roster.specs.Decoders.{entries_of};
 ghost use Rattle.bus_log.specs.LogQueues.{after_lines};
-ghost use Rattle.bus_log.specs.RailwayLines.{AllStay, are_in, block_lines, change_lines, conflict_line, conflict_lines, derailed_at, derailed_line, derailed_lines, free_line, is_in, is_new, lines_of_each, meeting_lines, moved_lines, occupied_line, pair_lines, railway_lines, stays, train_name, trains_of};
+ghost use Rattle.bus_log.specs.ChangeLines.{all_blocks, all_changes, all_conflicts, all_trains, block_changes, conflicts_in, meetings_in, pair_in, train_changes};
+ghost use Rattle.bus_log.specs.RailwayLines.{AllStay, are_in, change_lines, conflict_line, derailed_at, derailed_line, free_line, is_in, is_new, occupied_line, railway_lines, stays, train_name, trains_of};
 
+use crate::change::Change;
 use crate::log_queue::LogQueue;
 use arrayvec::ArrayVec;
 use railway::{Block, Conflict, MAX_TRAINS, Railway, TrainState, block_name};
@@ -47,28 +49,26 @@ pub(crate) fn print_railway(
         (railway_lines (entries_of roster.entry) before.now (option_copied railway.entry)) }
 {
     if let Some(railway) = railway {
-        print_moved(log, roster, railway.blocks(), before, railway.trains());
+        let change = Change {
+            roster,
+            blocks: railway.blocks(),
+            before,
+            after: railway.trains(),
+        };
+        print_moved(log, &change);
     }
 }
 
 /// Prints what has changed. Nothing is looked up while each train stays where it is.
-fn print_moved(
-    log: &mut LogQueue,
-    roster: Option<&Roster>,
-    blocks: &[Block],
-    before: &[TrainState],
-    after: &[TrainState],
-)
-    ensures { log.new
-        ≡ after_lines log.old
-        (moved_lines (entries_of roster.entry) blocks.now before.now after.now) }
+fn print_moved(log: &mut LogQueue, change: &Change<'_>)
+    ensures { log.new ≡ after_lines log.old (all_changes change.now) }
 {
-    if all_stay(before, after) {
+    if all_stay(change.before, change.after) {
         return;
     }
-    print_blocks(log, roster, blocks, before, after);
-    print_derailed(log, roster, before, after);
-    print_conflicts(log, roster, blocks, before, after);
+    print_blocks(log, change);
+    print_derailed(log, change);
+    print_conflicts(log, change);
 }
 
 /// Returns whether each train is in the same blocks as before, and is derailed if it was.
@@ -99,39 +99,23 @@ fn stays(before: &[TrainState], after: &[TrainState], i: usize) -> bool
 }
 
 /// Prints each block that became occupied or free.
-fn print_blocks(
-    log: &mut LogQueue,
-    roster: Option<&Roster>,
-    blocks: &[Block],
-    before: &[TrainState],
-    after: &[TrainState],
-)
-    ensures { log.new
-        ≡ after_lines log.old (lines_of_each 0 (length blocks.now)
-        (block_lines (entries_of roster.entry) blocks.now before.now after.now)) }
+fn print_blocks(log: &mut LogQueue, change: &Change<'_>)
+    ensures { log.new ≡ after_lines log.old (all_blocks change.now) }
 {
-    for i in 0..blocks.len() {
-        print_block(log, roster, blocks, i, before, after);
+    for i in 0..change.blocks.len() {
+        print_block(log, change, i);
     }
 }
 
 /// Prints a block, if it became occupied or free.
-fn print_block(
-    log: &mut LogQueue,
-    roster: Option<&Roster>,
-    blocks: &[Block],
-    i: usize,
-    before: &[TrainState],
-    after: &[TrainState],
-)
-    ensures { log.new
-        ≡ after_lines log.old
-        (block_lines (entries_of roster.entry) blocks.now before.now after.now i) }
+fn print_block(log: &mut LogQueue, change: &Change<'_>, i: usize)
+    ensures { log.new ≡ after_lines log.old (block_changes change.now i) }
 {
-    let name = block_name(blocks, i);
-    match (first_in(i, before), first_in(i, after)) {
+    let name = block_name(change.blocks, i);
+    match (first_in(i, change.before), first_in(i, change.after)) {
         (None, Some(first)) => {
-            log.print_line(&occupied_line(name, train_name(roster, after, first)));
+            let train = train_name(change.roster, change.after, first);
+            log.print_line(&occupied_line(name, train));
         }
         (Some(_), None) => log.print_line(&free_line(name)),
         _ => {}
@@ -151,35 +135,23 @@ fn first_in(block: usize, trains: &[TrainState]) -> Option<usize>
 }
 
 /// Prints each train that derailed.
-fn print_derailed(
-    log: &mut LogQueue,
-    roster: Option<&Roster>,
-    before: &[TrainState],
-    after: &[TrainState],
-)
-    ensures { log.new
-        ≡ after_lines log.old (lines_of_each 0 (length after.now)
-        (derailed_lines (entries_of roster.entry) before.now after.now)) }
+fn print_derailed(log: &mut LogQueue, change: &Change<'_>)
+    ensures { log.new ≡ after_lines log.old (all_trains change.now) }
 {
-    for i in 0..after.len() {
-        print_train(log, roster, i, before, after);
+    for i in 0..change.after.len() {
+        print_train(log, change, i);
     }
 }
 
 /// Prints a train, if it derailed.
-fn print_train(
-    log: &mut LogQueue,
-    roster: Option<&Roster>,
-    i: usize,
-    before: &[TrainState],
-    after: &[TrainState],
-)
-    ensures { log.new
-        ≡ after_lines log.old
-        (derailed_lines (entries_of roster.entry) before.now after.now i) }
+fn print_train(log: &mut LogQueue, change: &Change<'_>, i: usize)
+    ensures { log.new ≡ after_lines log.old (train_changes change.now i) }
 {
-    match (derailed_at(before, i), derailed_at(after, i)) {
-        (None, Some(turnout)) => print_derailment(log, train_name(roster, after, i), turnout),
+    match (derailed_at(change.before, i), derailed_at(change.after, i)) {
+        (None, Some(turnout)) => {
+            let train = train_name(change.roster, change.after, i);
+            print_derailment(log, train, turnout);
+        }
         _ => {}
     }
 }
@@ -197,83 +169,48 @@ fn print_derailment(log: &mut LogQueue, train: &str, turnout: u16)
 }
 
 /// Prints the conflicts of each block: each two trains that are in it and were not both before.
-fn print_conflicts(
-    log: &mut LogQueue,
-    roster: Option<&Roster>,
-    blocks: &[Block],
-    before: &[TrainState],
-    after: &[TrainState],
-)
-    ensures { log.new
-        ≡ after_lines log.old (lines_of_each 0 (length blocks.now)
-        (conflict_lines (entries_of roster.entry) blocks.now before.now after.now)) }
+fn print_conflicts(log: &mut LogQueue, change: &Change<'_>)
+    ensures { log.new ≡ after_lines log.old (all_conflicts change.now) }
 {
-    for block in 0..blocks.len() {
-        print_block_conflicts(log, roster, blocks, block, before, after);
+    for block in 0..change.blocks.len() {
+        print_block_conflicts(log, change, block);
     }
 }
 
 /// Prints the conflicts of a block.
-fn print_block_conflicts(
-    log: &mut LogQueue,
-    roster: Option<&Roster>,
-    blocks: &[Block],
-    block: usize,
-    before: &[TrainState],
-    after: &[TrainState],
-)
-    ensures { log.new
-        ≡ after_lines log.old
-        (conflict_lines (entries_of roster.entry) blocks.now before.now after.now block) }
+fn print_block_conflicts(log: &mut LogQueue, change: &Change<'_>, block: usize)
+    ensures { log.new ≡ after_lines log.old (conflicts_in change.now block) }
 {
-    for first in 0..after.len() {
-        print_meetings(log, roster, blocks, block, before, after, first);
+    for first in 0..change.after.len() {
+        print_meetings(log, change, block, first);
     }
 }
 
 /// Prints the conflicts of a train in a block with those behind it in the plan.
-fn print_meetings(
-    log: &mut LogQueue,
-    roster: Option<&Roster>,
-    blocks: &[Block],
-    block: usize,
-    before: &[TrainState],
-    after: &[TrainState],
-    first: usize,
-)
-    requires { first < length after.now }
-    ensures { log.new
-        ≡ after_lines log.old
-        (meeting_lines (entries_of roster.entry) blocks.now before.now after.now block first) }
+fn print_meetings(log: &mut LogQueue, change: &Change<'_>, block: usize, first: usize)
+    requires { first < length change.now.after.now }
+    ensures { log.new ≡ after_lines log.old (meetings_in change.now block first) }
 {
-    if !is_in(after, first, block) {
+    if !is_in(change.after, first, block) {
         return;
     }
-    for second in first + 1..after.len() {
+    for second in first + 1..change.after.len() {
         let conflict = Conflict {
             block,
             first,
             second,
         };
-        print_pair(log, roster, blocks, before, after, conflict);
+        print_pair(log, change, conflict);
     }
 }
 
 /// Prints the conflict of two trains in a block, if both are in it now and were not before.
-fn print_pair(
-    log: &mut LogQueue,
-    roster: Option<&Roster>,
-    blocks: &[Block],
-    before: &[TrainState],
-    after: &[TrainState],
-    conflict: Conflict,
-)
-    ensures { log.new
-        ≡ after_lines log.old
-        (pair_lines (entries_of roster.entry) blocks.now before.now after.now conflict) }
+fn print_pair(log: &mut LogQueue, change: &Change<'_>, conflict: Conflict)
+    ensures { log.new ≡ after_lines log.old (pair_in change.now conflict) }
 {
-    if is_new(before, after, conflict) {
-        log.print_line(&conflict_line(roster, blocks, after, conflict));
+    if is_new(change.before, change.after, conflict) {
+        let line = conflict_line(change.roster, change.blocks, change.after, conflict);
+        log.print_line(&line);
     }
 }
 

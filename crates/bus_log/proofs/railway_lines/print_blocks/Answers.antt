@@ -1,15 +1,14 @@
 use Rattle.std.proofs.Common.{◌<◌, ◌≤◌, ◌∙◌, length, arith, sym}
-use Rattle.roster.specs.Decoders.{entries_of}
-use Rattle.bus_log.specs.RailwayLines.{block_lines}
+use Rattle.bus_log.specs.ChangeLines.{block_changes}
 use Rattle.bus_log.proofs.EachLine.{each_more, each_none}
 use Rattle.bus_log.proofs.railway_lines.print_blocks.Goals as goal
 
 pub loop-i-preserved : goal.loop-i-preserved
 loop-i-preserved c =
-    let below : c.loop-i.i < length c.args.blocks.now = omega (arith, c.loop-i-test.true) in
-    each_more c.loop-i.log c.print_block.new.log (block_lines (entries_of c.args.roster) c.args.blocks.now c.args.before.now c.args.after.now) c.loop-i.i (length c.args.blocks.now) below c.print_block.ensures ∙ c.loop-i.invariant
+    let below : c.loop-i.i < length c.args.change.now.blocks.now = omega (arith, c.loop-i-test.true) in
+    each_more c.loop-i.log c.print_block.new.log (block_changes c.args.change.now) c.loop-i.i (length c.args.change.now.blocks.now) below c.print_block.ensures ∙ c.loop-i.invariant
 
 pub returns : goal.returns
 returns c =
-    let over : length c.args.blocks.now ≤ c.loop-i.i = omega (arith, c.loop-i-test.false) in
-    sym (each_none c.loop-i.log (block_lines (entries_of c.args.roster) c.args.blocks.now c.args.before.now c.args.after.now) c.loop-i.i (length c.args.blocks.now) over) ∙ c.loop-i.invariant
+    let over : length c.args.change.now.blocks.now ≤ c.loop-i.i = omega (arith, c.loop-i-test.false) in
+    sym (each_none c.loop-i.log (block_changes c.args.change.now) c.loop-i.i (length c.args.change.now.blocks.now) over) ∙ c.loop-i.invariant

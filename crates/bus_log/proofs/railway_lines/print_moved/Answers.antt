@@ -9,14 +9,14 @@ use Rattle.bus_log.proofs.railway_lines.print_moved.Goals as goal
 
 pub returns-then-all_stay : goal.returns-then-all_stay
 returns-then-all_stay c =
-    sym (ap (after_lines c.args.log.now) (no_lines (entries_of c.args.roster) c.args.blocks.now c.args.before.now c.args.after.now (c.all_stay.ensures c.if-all_stay.true)))
+    sym (ap (after_lines c.args.log.now) (no_lines (entries_of c.args.change.now.roster) c.args.change.now.blocks.now c.args.change.now.before.now c.args.change.now.after.now (c.all_stay.ensures c.if-all_stay.true)))
 
 pub returns : goal.returns
 returns c =
-    let entries : List Entry = entries_of c.args.roster in
-    let blocks = c.args.blocks.now in
-    let before = c.args.before.now in
-    let after = c.args.after.now in
+    let entries : List Entry = entries_of c.args.change.now.roster in
+    let blocks = c.args.change.now.blocks.now in
+    let before = c.args.change.now.before.now in
+    let after = c.args.change.now.after.now in
     lines_in_order c.args.log.now c.print_blocks.new.log c.print_derailed.new.log c.print_conflicts.new.log
     (lines_of_each 0 (length blocks) (block_lines entries blocks before after)) (lines_of_each 0 (length after) (derailed_lines entries before after)) (lines_of_each 0 (length blocks) (conflict_lines entries blocks before after))
     c.print_blocks.ensures c.print_derailed.ensures c.print_conflicts.ensures
