@@ -1,7 +1,13 @@
 -- Numbers, and lists of functions, as text.
-use Rattle.std.specs.Prelude.{ℕ, ◌+◌, ◌/◌, ◌%◌, ◌==◌, Bool, if◌then◌else◌, List, [], ◌∷◌, ◌++◌, codes}
+use Rattle.std.specs.Prelude.{ℕ, ◌≡◌, ◌≤◌, ◌+◌, ◌/◌, ◌%◌, ◌==◌, Bool, if◌then◌else◌, List, [], ◌∷◌, ◌++◌, codes}
 use Rattle.std.specs.Fmt.{decimal}
+use Rattle.arrayvec.specs.ArrayVec.{ArrayVec, array_vec_len}
 use Rattle.text.specs.Hex.{hex_char}
+
+-- a text is appended, of at most so many bytes
+pub record Appends (added : List ℕ) (most : ℕ) (before after : ArrayVec ℕ) : Type 0 where
+  pub text : after.items ≡ before.items ++ added
+  pub len : array_vec_len after ≤ array_vec_len before + most
 
 -- two digits
 abbrev pub hex_pair : ℕ → List ℕ

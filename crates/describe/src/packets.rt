@@ -1,6 +1,7 @@
 //! Explanations of DCC packets.
 ghost use Rattle.std.specs.Prelude.{◌≡◌, ◌≤◌, ◌+◌, ◌++◌, codes, length};
 ghost use Rattle.arrayvec.specs.ArrayVec.{array_vec_len};
+ghost use Rattle.describe.specs.Pieces.{Appends};
 ghost use Rattle.describe.specs.Packets.{accessory_words, address_words, both_words, direction_words, group_words, instr_words, instruction_words, packet_words, all_words, requested_words, long_words, step_28_words, step_words, switch_words, unread_words};
 
 use crate::fields::light_and_four;
@@ -12,8 +13,7 @@ use dcc_packet::{Address, Instr, Packet, read};
 /// `locomotive A`.
 fn push_address(words: &mut Words, address: Address)
     requires { array_vec_len words.old + 40 ≤ 400 }
-    ensures text { words.new.items ≡ words.old.items ++ address_words address }
-    ensures len { array_vec_len words.new ≤ array_vec_len words.old + 40 }
+    ensures { Appends (address_words address) 40 words.old words.new }
 {
     match address {
         Address::Short(number) => push_field(words, "locomotive ", u16::from(number)),
@@ -27,8 +27,7 @@ fn push_address(words: &mut Words, address: Address)
 /// `, forward` or `, reverse`.
 pub(crate) fn push_direction(words: &mut Words, forward: bool)
     requires { array_vec_len words.old + 9 ≤ 400 }
-    ensures text { words.new.items ≡ words.old.items ++ direction_words forward }
-    ensures len { array_vec_len words.new ≤ array_vec_len words.old + 9 }
+    ensures { Appends (direction_words forward) 9 words.old words.new }
 {
     push_text(words, if forward { ", forward" } else { ", reverse" });
 }
@@ -36,8 +35,7 @@ pub(crate) fn push_direction(words: &mut Words, forward: bool)
 /// `stop`, `emergency stop` or `step N of M`.
 fn push_step(words: &mut Words, code: u8, of: u16)
     requires { array_vec_len words.old + 19 ≤ 400 }
-    ensures text { words.new.items ≡ words.old.items ++ step_words code of }
-    ensures len { array_vec_len words.new ≤ array_vec_len words.old + 19 }
+    ensures { Appends (step_words code of) 19 words.old words.new }
 {
     match code {
         0 => push_text(words, "stop"),
@@ -52,8 +50,7 @@ fn push_step(words: &mut Words, code: u8, of: u16)
 /// The same for 28 steps, by the five speed bits of the packet.
 fn push_step_28(words: &mut Words, low: u8)
     requires { array_vec_len words.old + 19 ≤ 400 }
-    ensures text { words.new.items ≡ words.old.items ++ step_28_words low }
-    ensures len { array_vec_len words.new ≤ array_vec_len words.old + 19 }
+    ensures { Appends (step_28_words low) 19 words.old words.new }
 {
     match 2 * (low % 16) + low / 16 % 2 {
         0..=1 => push_text(words, "stop"),
@@ -68,8 +65,7 @@ fn push_step_28(words: &mut Words, low: u8)
 /// A speed of five bits; the packet alone does not show whether it means 14 or 28 steps.
 fn push_both(words: &mut Words, low: u8)
     requires { array_vec_len words.old + 60 ≤ 400 }
-    ensures text { words.new.items ≡ words.old.items ++ both_words low }
-    ensures len { array_vec_len words.new ≤ array_vec_len words.old + 60 }
+    ensures { Appends (both_words low) 60 words.old words.new }
 {
     push_step(words, low % 16, 14);
     if low > 1 {
@@ -88,8 +84,7 @@ fn push_both(words: &mut Words, low: u8)
 /// `locomotive A: `, before its instruction.
 fn push_address_before(words: &mut Words, address: Address)
     requires { array_vec_len words.old + 42 ≤ 400 }
-    ensures text { words.new.items ≡ words.old.items ++ address_words address ++ codes ": " }
-    ensures len { array_vec_len words.new ≤ array_vec_len words.old + 42 }
+    ensures { Appends (address_words address ++ codes ": ") 42 words.old words.new }
 {
     push_address(words, address);
     push_text(words, ": ");
@@ -100,8 +95,7 @@ fn push_group(words: &mut Words, address: Address, label: &str, first: u16, bits
     requires label { length label.now ≤ 10 }
     requires first { first ≤ 255 }
     requires room { array_vec_len words.old + 140 ≤ 400 }
-    ensures text { words.new.items ≡ words.old.items ++ group_words address label.now first bits }
-    ensures len { array_vec_len words.new ≤ array_vec_len words.old + 140 }
+    ensures { Appends (group_words address label.now first bits) 140 words.old words.new }
 {
     push_address_before(words, address);
     push_functions(words, label, first, bits);
@@ -111,8 +105,7 @@ fn push_group(words: &mut Words, address: Address, label: &str, first: u16, bits
 #[tactic(auto, unfolding(crate::specs::Packets::switch_words))]
 pub(crate) fn push_switch(words: &mut Words, number: u16, closed: bool, on: bool)
     requires { array_vec_len words.old + 40 ≤ 400 }
-    ensures text { words.new.items ≡ words.old.items ++ switch_words number closed on }
-    ensures len { array_vec_len words.new ≤ array_vec_len words.old + 40 }
+    ensures { Appends (switch_words number closed on) 40 words.old words.new }
 {
     push_field(words, "turnout ", number);
     push_text(words, if closed { " closed" } else { " thrown" });
@@ -122,8 +115,7 @@ pub(crate) fn push_switch(words: &mut Words, number: u16, closed: bool, on: bool
 /// The explanation of an instruction.
 fn push_instr(words: &mut Words, instr: Instr)
     requires { array_vec_len words.old + 140 ≤ 400 }
-    ensures text { words.new.items ≡ words.old.items ++ instr_words instr }
-    ensures len { array_vec_len words.new ≤ array_vec_len words.old + 140 }
+    ensures { Appends (instr_words instr) 140 words.old words.new }
 {
     match instr {
         Instr::Idle => push_text(words, "idle"),
@@ -169,8 +161,7 @@ fn push_instr(words: &mut Words, instr: Instr)
 fn push_instruction(words: &mut Words, bytes: &[u8])
     requires size { length bytes.now ≤ 6 }
     requires room { array_vec_len words.old + 250 ≤ 400 }
-    ensures text { words.new.items ≡ words.old.items ++ instruction_words bytes.now }
-    ensures len { array_vec_len words.new ≤ array_vec_len words.old + 250 }
+    ensures { Appends (instruction_words bytes.now) 250 words.old words.new }
 {
     push_row(words, &INSTRUCTIONS, bytes);
 }
@@ -180,8 +171,7 @@ fn push_instruction(words: &mut Words, bytes: &[u8])
 fn push_accessory(words: &mut Words, bytes: &[u8])
     requires size { length bytes.now ≤ 6 }
     requires room { array_vec_len words.old + 250 ≤ 400 }
-    ensures text { words.new.items ≡ words.old.items ++ accessory_words bytes.now }
-    ensures len { array_vec_len words.new ≤ array_vec_len words.old + 250 }
+    ensures { Appends (accessory_words bytes.now) 250 words.old words.new }
 {
     push_row(words, &ACCESSORIES, bytes);
 }
@@ -191,8 +181,7 @@ fn push_accessory(words: &mut Words, bytes: &[u8])
 fn push_requested(words: &mut Words, address: Address, requested: &[u8])
     requires size { length requested.now ≤ 6 }
     requires room { array_vec_len words.old + 300 ≤ 400 }
-    ensures text { words.new.items ≡ words.old.items ++ requested_words address requested.now }
-    ensures len { array_vec_len words.new ≤ array_vec_len words.old + 300 }
+    ensures { Appends (requested_words address requested.now) 300 words.old words.new }
 {
     push_address_before(words, address);
     push_instruction(words, requested);
@@ -205,8 +194,7 @@ fn push_long(words: &mut Words, high: u8, requested: &[u8])
     requires high { high ≤ 231 }
     requires size { length requested.now ≤ 6 }
     requires room { array_vec_len words.old + 300 ≤ 400 }
-    ensures text { words.new.items ≡ words.old.items ++ long_words high requested.now }
-    ensures len { array_vec_len words.new ≤ array_vec_len words.old + 300 }
+    ensures { Appends (long_words high requested.now) 300 words.old words.new }
 {
     match requested {
         [low, requested @ ..] => push_requested(
@@ -223,8 +211,7 @@ fn push_long(words: &mut Words, high: u8, requested: &[u8])
 fn push_all(words: &mut Words, requested: &[u8])
     requires size { length requested.now ≤ 6 }
     requires room { array_vec_len words.old + 300 ≤ 400 }
-    ensures text { words.new.items ≡ words.old.items ++ all_words requested.now }
-    ensures len { array_vec_len words.new ≤ array_vec_len words.old + 300 }
+    ensures { Appends (all_words requested.now) 300 words.old words.new }
 {
     push_text(words, "all locomotives: ");
     push_instruction(words, requested);
@@ -235,8 +222,7 @@ fn push_all(words: &mut Words, requested: &[u8])
 fn push_unread(words: &mut Words, bytes: &[u8])
     requires size { length bytes.now ≤ 6 }
     requires room { array_vec_len words.old + 300 ≤ 400 }
-    ensures text { words.new.items ≡ words.old.items ++ unread_words bytes.now }
-    ensures len { array_vec_len words.new ≤ array_vec_len words.old + 300 }
+    ensures { Appends (unread_words bytes.now) 300 words.old words.new }
 {
     match bytes {
         [0, requested @ ..] => push_all(words, requested),
@@ -254,8 +240,7 @@ fn push_unread(words: &mut Words, bytes: &[u8])
 /// The explanation of a packet.
 pub(crate) fn push_packet(words: &mut Words, bytes: &[u8])
     requires { array_vec_len words.old + 300 ≤ 400 }
-    ensures text { words.new.items ≡ words.old.items ++ packet_words bytes.now }
-    ensures len { array_vec_len words.new ≤ array_vec_len words.old + 300 }
+    ensures { Appends (packet_words bytes.now) 300 words.old words.new }
 {
     let Some(packet) = Packet::of(bytes) else {
         return push_text(words, "wrong length");
