@@ -1,19 +1,15 @@
 //! The messages in captured bytes, and the bytes that are skipped.
 ghost use Rattle.std.specs.Prelude.{◌≡◌, ◌<◌, ◌≤◌, ◌++◌, ◌∷◌, OnOk, length, position};
 ghost use Rattle.std.specs.List.{list_any, position_or_len};
-ghost use Rattle.ln_frame.specs.Message.{message_len};
 ghost use Rattle.explain.specs.LineKinds.{set_off};
 ghost use Rattle.describe.specs.Messages.{message_words};
 ghost use Rattle.explain.specs.Parts.{back_of, begins_whole, front_len, front_note, front_of, has_several, is_opcode, part_note, parts_note, parts_of, skipped_note};
 
 use arrayvec::ArrayVec;
 use describe::{Words, describe_message};
-use ln_frame::Msg;
+use ln_frame::{Msg, OPCODE, message_len};
 use std::alloc::AllocError;
 use text::push_hex_words;
-
-/// From here on a byte is an opcode, and below it is data.
-const OPCODE: u8 = 0x80;
 
 /// The bytes of a line, each as a space and two digits.
 type HexWords = ArrayVec<u8, 600>;
@@ -45,22 +41,6 @@ pub(crate) fn cut_part(bytes: &[u8]) -> (&[u8], &[u8])
     ensures within { length result.0.now ≤ length bytes.now }
 {
     bytes.split_at(1 + data_len(&bytes[1..]))
-}
-
-/// Returns the number of bytes of a message that begins with these two.
-fn message_len(opcode: u8, second: u8) -> Option<usize>
-    ensures { result ≡ message_len opcode second }
-{
-    match opcode {
-        0x00..=0x7F => None,
-        0x80..=0x9F => Some(2),
-        0xA0..=0xBF => Some(4),
-        0xC0..=0xDF => Some(6),
-        0xE0..=0xFF => match second {
-            3..=127 => Some(second as usize),
-            _ => None,
-        },
-    }
 }
 
 /// Returns the number of bytes of the message that a part begins with.

@@ -7,4 +7,4 @@ mod framer;
 mod msg;
 
 pub use framer::{Framer, any_cut, left_is_enough, never_overlap, whole_message};
-pub use msg::{MAX_LEN, Msg, sealed_is_whole};
+pub use msg::{MAX_LEN, Msg, OPCODE, message_len, sealed_is_whole};

@@ -10,7 +10,7 @@ use std::marker::Model;
 pub const MAX_LEN: usize = 127;
 
 /// From here on a byte is an opcode, and below it is data.
-pub(crate) const OPCODE: u8 = 0x80;
+pub const OPCODE: u8 = 0x80;
 
 /// What the bytes of a message give together, by exclusive or.
 const CHECKED: u8 = 0xFF;
@@ -132,8 +132,10 @@ pub fn sealed_is_whole()
         → IsWhole (body ++ check_of body ∷ []) }
 {}
 
-/// How many bytes a message has that begins with these two.
-pub(crate) fn message_len(opcode: u8, second: u8) -> Option<usize>
+/// Returns the number of bytes of a message that begins with these two, 2 to 127; `None` if no message
+/// does. The four opcodes of a group have one number; those from E0 on have their count as the second
+/// byte.
+pub fn message_len(opcode: u8, second: u8) -> Option<usize>
     ensures { result ≡ message_len opcode second }
 {
     match opcode {
