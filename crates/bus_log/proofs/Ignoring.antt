@@ -11,20 +11,7 @@ abbrev HasNoEffect : Op → Type 0
 HasNoEffect op = (powered : PoweredDesk) (waiting : ℕ) → (after powered op ≡ powered) × (answer powered op waiting ≡ None)
 
 pub no_effect : (op : Op) → has_no_effect op ≡ true → HasNoEffect op
-no_effect PowerOff e = cc
-no_effect PowerOn e = cc
-no_effect ForceIdle e = cc
-no_effect (Speed slot spd) e = cc
-no_effect (Dirf slot dirf) e = cc
-no_effect (Snd slot snd) e = cc
-no_effect (SwReq number closed on) e = cc
-no_effect (SwAck number closed on) e = cc
 no_effect (LongAck opc ack) e = λ powered waiting. (refl, refl)
-no_effect (SlotStat slot stat) e = cc
-no_effect (Move src dest) e = cc
-no_effect (SlotRead slot) e = cc
-no_effect (LocoAddr high low) e = cc
 no_effect (SlotData fields) e = λ powered waiting. (refl, refl)
-no_effect (SlotWrite fields) e = cc
-no_effect (Imm count im1 im2 im3 im4 im5) e = cc
 no_effect Other e = λ powered waiting. (refl, refl)
+no_effect _ e = cc

@@ -55,22 +55,7 @@ tail-back law b bs h = ap (λ (text : List ℕ). bytes_of (words_of text)) (same
 no_pair : (op : Op) → leading_bytes (words_of (op_text op)) ≡ []
 unfolding leading_bytes words_of
 no_pair PowerOff = refl
-no_pair PowerOn = refl
-no_pair ForceIdle = refl
-no_pair (Speed slot spd) = refl
-no_pair (Dirf slot dirf) = refl
-no_pair (Snd slot snd) = refl
-no_pair (SwReq number closed on) = refl
-no_pair (SwAck number closed on) = refl
-no_pair (LongAck opc ack) = refl
-no_pair (SlotStat slot stat) = refl
-no_pair (Move src dest) = refl
-no_pair (SlotRead slot) = refl
-no_pair (LocoAddr high low) = refl
-no_pair (SlotData fields) = refl
-no_pair (SlotWrite fields) = refl
-no_pair (Imm count im1 im2 im3 im4 im5) = refl
-no_pair Other = refl
+no_pair _ = refl
 
 leading-back : ReadBefore → (b : ℕ) (bs : List ℕ) (op : Op) → AreBytes (b ∷ bs) → leading_bytes (words_of (tail b bs ++ 32 ∷ op_text op)) ≡ b ∷ bs
 unfolding words_of

@@ -6,7 +6,7 @@ use Rattle.std.specs.FinMap.{get}
 use Rattle.ln_ops.specs.Fields.{SlotBytes}
 use Rattle.ln_ops.specs.Slot.{address_with, is_address, free_row}
 use Rattle.ln_ops.specs.declared.op.Op.{Op}
-use Rattle.ln_ops.specs.declared.op.Op.TheVariants.{PowerOff, PowerOn, ForceIdle, Speed, Dirf, Snd, SwReq, SwAck, LongAck, SlotStat, Move, SlotRead, LocoAddr, SlotData, SlotWrite, Imm, Other}
+use Rattle.ln_ops.specs.declared.op.Op.TheVariants.{Speed, Dirf, Snd, SlotStat, Move, LocoAddr, SlotWrite, Imm}
 use Rattle.ln_ops.specs.declared.row.Row.{Row}
 use Rattle.dcc_packet.specs.Form.{to_decoder}
 use Rattle.dcc_packet.specs.Sent.{group_one_bits, group_two_bits, group_three_bits}
@@ -207,20 +207,12 @@ module _ (desk : Desk) (slot : ℕ) (kind : Kind) (stay : OthersStay desk slot) 
     ]
 
   pub op_told : (op : Op) → is_refreshed (desk_after desk op) slot ≡ true → IsRequested desk (desk_after desk op) slot kind (changed_places desk op)
-  op_told PowerOff live = inr (refl, refl)
-  op_told PowerOn live = inr (refl, refl)
-  op_told ForceIdle live = inr (refl, refl)
   op_told (Speed n spd) live = one_field n (field.Speed spd)
   op_told (Dirf n dirf) live = one_field n (field.Dirf dirf)
   op_told (Snd n snd) live = one_field n (field.Snd snd)
-  op_told (SwReq number closed on) live = inr (refl, refl)
-  op_told (SwAck number closed on) live = inr (refl, refl)
-  op_told (LongAck opc ack) live = inr (refl, refl)
   op_told (SlotStat n stat) live = one_field n (field.Stat stat)
   op_told (Move src dest) live = move_told src dest live
-  op_told (SlotRead n) live = inr (refl, refl)
   op_told (LocoAddr high low) live = take_told (address_with high low) live
-  op_told (SlotData fields) live = inr (refl, refl)
   op_told (SlotWrite fields) live = write_told fields
   op_told (Imm count im1 im2 im3 im4 im5) live = asked_told (more_of desk count im1 im2 im3 im4 im5)
-  op_told Other live = inr (refl, refl)
+  op_told _ live = inr (refl, refl)

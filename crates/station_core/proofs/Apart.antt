@@ -7,7 +7,7 @@ use Rattle.dcc_packet.specs.Sent.{accessory_bytes, idle_bytes, last_switch}
 use Rattle.dcc_packet.specs.Form.{bit, to_decoder}
 use Rattle.ln_ops.specs.Message.{op_of}
 use Rattle.ln_ops.specs.declared.op.Op.{Op}
-use Rattle.ln_ops.specs.declared.op.Op.TheVariants.{PowerOff, PowerOn, ForceIdle, Speed, Dirf, Snd, SwReq, SwAck, LongAck, SlotStat, Move, SlotRead, LocoAddr, SlotData, SlotWrite, Imm, Other}
+use Rattle.ln_ops.specs.declared.op.Op.TheVariants.{SwReq, SwAck}
 use Rattle.ln_ops.specs.declared.reply.Reply.{Reply as ReplyOf}
 use Rattle.slot_table.specs.Desk.{Desk}
 use Rattle.slot_table.specs.Entry.{entry_of}
@@ -122,23 +122,9 @@ twice_legal number waiting closed on = by_test (is_taken number waiting) (λ tak
     by_test false h = tt
 
 op_legal : (seen : Seen) (op : Op) → AreLegal (asked_by_op seen op)
-op_legal seen PowerOff = tt
-op_legal seen PowerOn = tt
-op_legal seen ForceIdle = tt
-op_legal seen (Speed slot spd) = tt
-op_legal seen (Dirf slot dirf) = tt
-op_legal seen (Snd slot snd) = tt
 op_legal seen (SwReq number closed on) = twice_legal number (requests_in seen.jobs) closed on
 op_legal seen (SwAck number closed on) = twice_legal number (requests_in seen.jobs) closed on
-op_legal seen (LongAck opc ack) = tt
-op_legal seen (SlotStat slot stat) = tt
-op_legal seen (Move src dest) = tt
-op_legal seen (SlotRead slot) = tt
-op_legal seen (LocoAddr high low) = tt
-op_legal seen (SlotData fields) = tt
-op_legal seen (SlotWrite fields) = tt
-op_legal seen (Imm count im1 im2 im3 im4 im5) = tt
-op_legal seen Other = tt
+op_legal seen _ = tt
 
 message_legal : (seen : Seen) (message : Option (List ℕ)) → AreLegal (asked_by_message seen message)
 message_legal seen None = tt

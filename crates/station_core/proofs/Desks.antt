@@ -5,7 +5,7 @@ use Rattle.std.specs.Prelude.{slice_index}
 use Rattle.ln_frame.specs.Message.{are_data, has_form, is_whole}
 use Rattle.ln_frame.specs.Stream.{message_at_end}
 use Rattle.ln_ops.specs.Fields.{SlotBytes, AreData}
-use Rattle.ln_ops.specs.Message.{op_of, four_of, fields_of, imm_of, switch_number, is_closed, is_on}
+use Rattle.ln_ops.specs.Message.{op_of, four_of, fields_of, imm_of}
 use Rattle.ln_ops.specs.declared.op.Op.{Op}
 use Rattle.ln_ops.specs.declared.op.Op.TheVariants.{PowerOff, PowerOn, ForceIdle, Speed, Dirf, Snd, SwReq, SwAck, LongAck, SlotStat, Move, SlotRead, LocoAddr, SlotData, SlotWrite, Imm, Other}
 use Rattle.ln_ops.specs.Slot.{address_with}
@@ -74,28 +74,7 @@ either true x y h k = h
 either false x y h k = k
 
 four_fits : (opcode first second : ℕ) → second < 128 → Fits (four_of opcode first second)
-four_fits opcode first second low =
-    let rest0 : Op = if opcode == 0xBF then LocoAddr first second else Other in
-    let fit0 : Fits rest0 = either (opcode == 0xBF) (LocoAddr first second) Other (plain (LocoAddr first second) refl) (plain Other refl) in
-    let rest1 : Op = if opcode == 0xBB then SlotRead first else rest0 in
-    let fit1 : Fits rest1 = either (opcode == 0xBB) (SlotRead first) rest0 (plain (SlotRead first) refl) (fit0) in
-    let rest2 : Op = if opcode == 0xBA then Move first second else rest1 in
-    let fit2 : Fits rest2 = either (opcode == 0xBA) (Move first second) rest1 (plain (Move first second) refl) (fit1) in
-    let rest3 : Op = if opcode == 0xB5 then SlotStat first second else rest2 in
-    let fit3 : Fits rest3 = either (opcode == 0xB5) (SlotStat first second) rest2 (plain (SlotStat first second) refl) (fit2) in
-    let rest4 : Op = if opcode == 0xB4 then LongAck first second else rest3 in
-    let fit4 : Fits rest4 = either (opcode == 0xB4) (LongAck first second) rest3 (plain (LongAck first second) refl) (fit3) in
-    let rest5 : Op = if opcode == 0xBD then SwAck (switch_number first second) (is_closed second) (is_on second) else rest4 in
-    let fit5 : Fits rest5 = either (opcode == 0xBD) (SwAck (switch_number first second) (is_closed second) (is_on second)) rest4 (plain (SwAck (switch_number first second) (is_closed second) (is_on second)) refl) (fit4) in
-    let rest6 : Op = if opcode == 0xB0 then SwReq (switch_number first second) (is_closed second) (is_on second) else rest5 in
-    let fit6 : Fits rest6 = either (opcode == 0xB0) (SwReq (switch_number first second) (is_closed second) (is_on second)) rest5 (plain (SwReq (switch_number first second) (is_closed second) (is_on second)) refl) (fit5) in
-    let rest7 : Op = if opcode == 0xA2 then Snd first second else rest6 in
-    let fit7 : Fits rest7 = either (opcode == 0xA2) (Snd first second) rest6 (plain (Snd first second) refl) (fit6) in
-    let rest8 : Op = if opcode == 0xA1 then Dirf first second else rest7 in
-    let fit8 : Fits rest8 = either (opcode == 0xA1) (Dirf first second) rest7 (plain (Dirf first second) refl) (fit7) in
-    let rest9 : Op = if opcode == 0xA0 then Speed first second else rest8 in
-    let fit9 : Fits rest9 = either (opcode == 0xA0) (Speed first second) rest8 (fits_speed first second low) (fit8) in
-    fit9
+four_fits opcode first second low = search (plain, fits_speed, either, refl) depth 14
 
 fields_fit : (m : List ℕ) → is_whole m ≡ true → AreData (fields_of m)
 fields_fit m h = record {

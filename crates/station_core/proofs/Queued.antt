@@ -3,7 +3,7 @@ use Rattle.std.proofs.Common.{◌≡◌, ℕ, ◌<◌, true, List, [], ◌∷◌
 use Rattle.std.specs.List.{slice_index_or}
 use Rattle.std.specs.Prelude.{Contains}
 use Rattle.ln_ops.specs.declared.op.Op.{Op}
-use Rattle.ln_ops.specs.declared.op.Op.TheVariants.{PowerOff, PowerOn, ForceIdle, Speed, Dirf, Snd, SwReq, SwAck, LongAck, SlotStat, Move, SlotRead, LocoAddr, SlotData, SlotWrite, Imm, Other}
+use Rattle.ln_ops.specs.declared.op.Op.TheVariants.{SwReq, SwAck}
 use Rattle.slot_table.specs.Desk.{Desk}
 use Rattle.refresh_ring.specs.Places.{is_refreshed as is_slot_on}
 use Rattle.refresh_ring.specs.Jobs.{sends_ahead}
@@ -42,27 +42,10 @@ module _ (ahead_of : (slot : ℕ) (kind : Kind) (s : Scheduled) → is_slot_on s
   places_wait : (places : List (ℕ × Kind)) (s : Scheduled) → is_slot_on s.slots slot ≡ true → Contains places (slot, kind) → ThrottleView slot kind (after_places places s).jobs
   places_wait places s on at = waits_at at.0 places s on at.1 at.2
 
-  none_waits : (s : Scheduled) → Contains {X = ℕ × Kind} [] (slot, kind) → ThrottleView slot kind s.jobs
-  none_waits s at = absurd (omega (arith, at.1))
-
   op_waits : (desk : Desk) (op : Op) (s : Scheduled) → is_slot_on s.slots slot ≡ true → Contains (changed_places desk op) (slot, kind) → ThrottleView slot kind (schedule_asked desk op s).jobs
-  op_waits desk PowerOff s on at = none_waits s at
-  op_waits desk PowerOn s on at = none_waits s at
-  op_waits desk ForceIdle s on at = none_waits s at
-  op_waits desk (Speed n spd) s on at = places_wait (changed_places desk (Speed n spd)) s on at
-  op_waits desk (Dirf n dirf) s on at = places_wait (changed_places desk (Dirf n dirf)) s on at
-  op_waits desk (Snd n snd) s on at = places_wait (changed_places desk (Snd n snd)) s on at
   op_waits desk (SwReq number closed on') s on at = absurd (omega (arith, at.1))
   op_waits desk (SwAck number closed on') s on at = absurd (omega (arith, at.1))
-  op_waits desk (LongAck opc ack) s on at = none_waits s at
-  op_waits desk (SlotStat n stat) s on at = places_wait (changed_places desk (SlotStat n stat)) s on at
-  op_waits desk (Move src dest) s on at = places_wait (changed_places desk (Move src dest)) s on at
-  op_waits desk (SlotRead n) s on at = none_waits s at
-  op_waits desk (LocoAddr high low) s on at = none_waits s at
-  op_waits desk (SlotData fields) s on at = none_waits s at
-  op_waits desk (SlotWrite fields) s on at = places_wait (changed_places desk (SlotWrite fields)) s on at
-  op_waits desk (Imm count im1 im2 im3 im4 im5) s on at = places_wait (changed_places desk (Imm count im1 im2 im3 im4 im5)) s on at
-  op_waits desk Other s on at = none_waits s at
+  op_waits desk op s on at = places_wait (changed_places desk op) s on at
 
 pub changes_wait : ((slot : ℕ) (kind : Kind) (s : Scheduled) → is_slot_on s.slots slot ≡ true → (ahead : ℕ) × (sends_ahead slot kind (after_changed slot kind s).jobs ≡ Some ahead))
     → ((slot : ℕ) (kind : Kind) (jobs more : List Job) (ahead : ℕ) → sends_ahead slot kind jobs ≡ Some ahead → sends_ahead slot kind (jobs ++ more) ≡ Some ahead)

@@ -3,7 +3,7 @@ use Rattle.std.proofs.Common.{◌≡◌, ℕ, ◌+◌, ◌-◌, ◌*◌, ◌≤�
 use Rattle.std.proofs.lemmas.Bool.{and_parts, or_left, or_right, cases_lt, both_ways}
 use Rattle.std.proofs.Math.ListN.{get_or-eq_default}
 use Rattle.ln_ops.specs.declared.op.Op.{Op}
-use Rattle.ln_ops.specs.declared.op.Op.TheVariants.{PowerOff, PowerOn, ForceIdle, Speed, Dirf, Snd, SwReq, SwAck, LongAck, SlotStat, Move, SlotRead, LocoAddr, SlotData, SlotWrite, Imm, Other}
+use Rattle.ln_ops.specs.declared.op.Op.TheVariants.{SwReq, SwAck}
 use Rattle.ln_ops.specs.Message.{op_of}
 use Rattle.slot_table.specs.Desk.{Desk}
 use Rattle.slot_table.specs.Entry.{IsSlot}
@@ -70,23 +70,9 @@ request_same : (number : ℕ) (closed on : Bool) (s : Scheduled) → SameRing s 
 request_same number closed on s = record { cursor = refl; last = refl; prefers = refl }
 
 asked_same : (desk : Desk) (op : Op) (s : Scheduled) → SameRing s (schedule_asked desk op s)
-asked_same desk PowerOff s = same s
-asked_same desk PowerOn s = same s
-asked_same desk ForceIdle s = same s
-asked_same desk (Speed slot spd) s = places_same (changed_places desk (Speed slot spd)) s
-asked_same desk (Dirf slot dirf) s = places_same (changed_places desk (Dirf slot dirf)) s
-asked_same desk (Snd slot snd) s = places_same (changed_places desk (Snd slot snd)) s
 asked_same desk (SwReq number closed on) s = request_same number closed on s
 asked_same desk (SwAck number closed on) s = request_same number closed on s
-asked_same desk (LongAck opc ack) s = same s
-asked_same desk (SlotStat slot stat) s = places_same (changed_places desk (SlotStat slot stat)) s
-asked_same desk (Move src dest) s = places_same (changed_places desk (Move src dest)) s
-asked_same desk (SlotRead slot) s = same s
-asked_same desk (LocoAddr high low) s = same s
-asked_same desk (SlotData fields) s = same s
-asked_same desk (SlotWrite fields) s = places_same (changed_places desk (SlotWrite fields)) s
-asked_same desk (Imm count im1 im2 im3 im4 im5) s = places_same (changed_places desk (Imm count im1 im2 im3 im4 im5)) s
-asked_same desk Other s = same s
+asked_same desk op s = places_same (changed_places desk op) s
 
 pub message_same : (seen : Seen) (message : Option (List ℕ)) → SameRing (scheduled seen) (scheduled (after_message seen message))
 message_same seen None = same (scheduled seen)

@@ -8,7 +8,7 @@ use Rattle.ln_ops.specs.Fields.{SlotBytes, AreData}
 use Rattle.ln_ops.specs.Reply.{body_of}
 use Rattle.ln_ops.specs.Slot.{address_of, address_with, free_row, is_address, is_held, is_kind, is_slot, is_stat, kind_of, stat_with, state_number, state_of}
 use Rattle.ln_ops.specs.declared.op.Op.{Op}
-use Rattle.ln_ops.specs.declared.op.Op.TheVariants.{PowerOff, PowerOn, ForceIdle, Speed, Dirf, Snd, SwReq, SwAck, LongAck, SlotStat, Move, SlotRead, LocoAddr, SlotData, SlotWrite, Imm, Other}
+use Rattle.ln_ops.specs.declared.op.Op.TheVariants.{PowerOff, PowerOn, ForceIdle, Speed, Dirf, Snd, SwReq, SwAck, SlotStat, Move, SlotRead, LocoAddr, SlotWrite, Imm}
 use Rattle.ln_ops.specs.declared.reply.Reply.TheVariants as reply
 use Rattle.ln_ops.specs.declared.row.Row.{Row}
 use Rattle.ln_ops.specs.declared.row.State.{State}
@@ -400,16 +400,7 @@ module _ (slot : ℕ) (inside : is_slot slot ≡ true) (powered : PoweredDesk) (
   refused (SwReq number closed on) opc waiting h = refl
   refused (SwAck number closed on) opc waiting h = refl
   refused (SlotRead n) opc waiting h = refl
-  refused PowerOff opc waiting h = absurd cc
-  refused PowerOn opc waiting h = absurd cc
-  refused ForceIdle opc waiting h = absurd cc
-  refused (Speed n spd) opc waiting h = absurd cc
-  refused (Dirf n dirf) opc waiting h = absurd cc
-  refused (Snd n snd) opc waiting h = absurd cc
-  refused (LongAck opc2 ack) opc waiting h = absurd cc
-  refused (SlotStat n stat) opc waiting h = absurd cc
-  refused (SlotData fields) opc waiting h = absurd cc
-  refused Other opc waiting h = absurd cc
+  refused _ opc waiting h = absurd cc
 
   -- a message for another slot
   away : (n : ℕ) → (n == slot) ≡ false → slot ≢ n
@@ -456,15 +447,10 @@ module _ (slot : ℕ) (inside : is_slot slot ≡ true) (powered : PoweredDesk) (
       keeps slot inside powered (after_take powered.desk (address_with high low)) (stay.take (address_with high low) (not_given slot 0x3F (after powered (LocoAddr high low)) (take_answer powered.desk (address_with high low)) none))
   others (SlotWrite f) ne none = keeps slot inside powered (after_write powered.desk f) (stay.write f (λ same. both_ways (f.slot == slot) ne (eq-eqb f.slot slot (sym same))))
   others (Imm count im1 im2 im3 im4 im5) ne none = more_hidden (more_of powered.desk count im1 im2 im3 im4 im5)
-  others (SwReq number closed on) ne none = refl
-  others (SwAck number closed on) ne none = refl
-  others (SlotRead n) ne none = refl
-  others (LongAck opc ack) ne none = refl
-  others (SlotData fields) ne none = refl
-  others Other ne none = refl
   others PowerOff ne none = absurd cc
   others PowerOn ne none = absurd cc
   others ForceIdle ne none = absurd cc
+  others _ ne none = refl
 
   writes_its_bytes : WritesItsBytes powered slot
   writes_its_bytes = record {

@@ -3,7 +3,7 @@ use Rattle.std.proofs.Common.{◌≡◌, ℕ, ◌+◌, ◌*◌, ◌<◌, ◌≤�
 use Rattle.std.proofs.lemmas.Bool.{cases_lt, le-ltb, lt-ltb}
 use Rattle.dcc_packet.specs.Sent.{last_switch}
 use Rattle.ln_ops.specs.declared.op.Op.{Op}
-use Rattle.ln_ops.specs.declared.op.Op.TheVariants.{PowerOff, PowerOn, ForceIdle, Speed, Dirf, Snd, SwReq, SwAck, LongAck, SlotStat, Move, SlotRead, LocoAddr, SlotData, SlotWrite, Imm, Other}
+use Rattle.ln_ops.specs.declared.op.Op.TheVariants.{SwReq, SwAck}
 use Rattle.ln_ops.specs.Message.{op_of}
 use Rattle.slot_table.specs.Desk.{Desk}
 use Rattle.slot_table.specs.Entry.{IsSlot}
@@ -42,23 +42,9 @@ module _ (R : Scheduled → Scheduled → Type 0) (same : (s : Scheduled) → R 
   of_places (p ∷ places) s = chain s (after_changed p.0 p.1 s) (after_places places (after_changed p.0 p.1 s)) (place p.0 p.1 s) (of_places places (after_changed p.0 p.1 s))
 
   of_op : ((number : ℕ) (closed on : Bool) (s : Scheduled) → R s (after_request number closed on s)) → (desk : Desk) (op : Op) (s : Scheduled) → R s (schedule_asked desk op s)
-  of_op asked desk PowerOff s = same s
-  of_op asked desk PowerOn s = same s
-  of_op asked desk ForceIdle s = same s
-  of_op asked desk (Speed slot spd) s = of_places (changed_places desk (Speed slot spd)) s
-  of_op asked desk (Dirf slot dirf) s = of_places (changed_places desk (Dirf slot dirf)) s
-  of_op asked desk (Snd slot snd) s = of_places (changed_places desk (Snd slot snd)) s
   of_op asked desk (SwReq number closed on) s = asked number closed on s
   of_op asked desk (SwAck number closed on) s = asked number closed on s
-  of_op asked desk (LongAck opc ack) s = same s
-  of_op asked desk (SlotStat slot stat) s = of_places (changed_places desk (SlotStat slot stat)) s
-  of_op asked desk (Move src dest) s = of_places (changed_places desk (Move src dest)) s
-  of_op asked desk (SlotRead slot) s = same s
-  of_op asked desk (LocoAddr high low) s = same s
-  of_op asked desk (SlotData fields) s = same s
-  of_op asked desk (SlotWrite fields) s = of_places (changed_places desk (SlotWrite fields)) s
-  of_op asked desk (Imm count im1 im2 im3 im4 im5) s = of_places (changed_places desk (Imm count im1 im2 im3 im4 im5)) s
-  of_op asked desk Other s = same s
+  of_op asked desk op s = of_places (changed_places desk op) s
 
 -- a request that is taken or not
 by_request : (P : List Job → Type 0) (b : Bool) (some none : List Job) → P some → P none → P (if b then some else none)
@@ -156,23 +142,9 @@ module _ (turn : (addresses : List ℕ) (s : Scheduled) → switch_in (picked ad
       by_number false = kept_same s
 
   kept_op : (seen : Seen) (op : Op) (s : Scheduled) → requests_in s.jobs ≡ requests_in seen.jobs → to_send (schedule_asked seen.powered.desk op s).jobs ≡ to_send s.jobs ++ asked_by_op seen op
-  kept_op seen PowerOff s e = kept_same s
-  kept_op seen PowerOn s e = kept_same s
-  kept_op seen ForceIdle s e = kept_same s
-  kept_op seen (Speed slot spd) s e = kept_places (changed_places seen.powered.desk (Speed slot spd)) s
-  kept_op seen (Dirf slot dirf) s e = kept_places (changed_places seen.powered.desk (Dirf slot dirf)) s
-  kept_op seen (Snd slot snd) s e = kept_places (changed_places seen.powered.desk (Snd slot snd)) s
   kept_op seen (SwReq number closed on) s e = rw (← e) (kept_request number closed on s)
   kept_op seen (SwAck number closed on) s e = rw (← e) (kept_request number closed on s)
-  kept_op seen (LongAck opc ack) s e = kept_same s
-  kept_op seen (SlotStat slot stat) s e = kept_places (changed_places seen.powered.desk (SlotStat slot stat)) s
-  kept_op seen (Move src dest) s e = kept_places (changed_places seen.powered.desk (Move src dest)) s
-  kept_op seen (SlotRead slot) s e = kept_same s
-  kept_op seen (LocoAddr high low) s e = kept_same s
-  kept_op seen (SlotData fields) s e = kept_same s
-  kept_op seen (SlotWrite fields) s e = kept_places (changed_places seen.powered.desk (SlotWrite fields)) s
-  kept_op seen (Imm count im1 im2 im3 im4 im5) s e = kept_places (changed_places seen.powered.desk (Imm count im1 im2 im3 im4 im5)) s
-  kept_op seen Other s e = kept_same s
+  kept_op seen op s e = kept_places (changed_places seen.powered.desk op) s
 
   kept_message : (seen : Seen) (message : Option (List ℕ)) → to_send (after_message seen message).jobs ≡ to_send seen.jobs ++ asked_by_message seen message
   kept_message seen None = kept_same (scheduled seen)
