@@ -1,4 +1,6 @@
 //! What a command line may hold, as a table.
+ghost use Rattle.std.specs.Prelude.{◌≡◌};
+ghost use Rattle.command_line.specs.declared.table.Kind.TheVariants.{Flag};
 
 /// A program.
 #[derive(Clone, Copy)]
@@ -61,6 +63,21 @@ pub enum Need<'a> {
     Required,
     /// It may be left out, and then has this value.
     Default(&'a str),
+}
+
+/// A flag without a name, for lists of a fixed room.
+impl<'a> Default for Argument<'a> {
+    ghost is_default = { λ argument. argument.kind ≡ Flag };
+
+    fn default() -> Argument<'a> {
+        Argument {
+            id: "",
+            kind: Kind::Flag,
+            value_name: "",
+            need: Need::Optional,
+            help: "",
+        }
+    }
 }
 
 /// The option `--roster FILE`.

@@ -8,7 +8,7 @@ use crate::capture::capture_text;
 use crate::explainer::Explainer;
 use crate::hex::hex_text;
 use crate::streams::write_text;
-use filter::FilterFault;
+use filter::{FilterFault, FilterResult};
 use input_text::{Input, Output, read_limited};
 use std::alloc::{AllocError, Global};
 
@@ -37,7 +37,7 @@ pub fn convert<I: Input, O: Output>(
     conversion: Conversion,
     input: &mut I,
     output: &mut O,
-) -> Result<(), FilterFault>
+) -> FilterResult
     requires reads { I.failed input.old ≡ false }
     requires writes { O.failed output.old ≡ false }
     ensures converted { OnOk result

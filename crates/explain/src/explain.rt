@@ -3,7 +3,7 @@ ghost use Rattle.explain.specs.Conversion.{ExplainsOrConverts, FailsSo};
 
 use crate::conversion::{Conversion, convert};
 use crate::streams::explain;
-use filter::{Filter, FilterFault, FilterFlag, FilterFlags, FilterText};
+use filter::{Filter, FilterFlag, FilterFlags, FilterResult, FilterText};
 use input_text::{Input, Output};
 use std::alloc::Global;
 
@@ -38,7 +38,7 @@ impl Filter for Explain {
         flags: FilterFlags,
         input: &mut I,
         output: &mut O,
-    ) -> Result<(), FilterFault> {
+    ) -> FilterResult {
         let conversion = match (flags.first, flags.second) {
             (false, false) => return explain(alloc, input, output),
             (true, false) => Conversion::LogToHex,

@@ -8,7 +8,7 @@ ghost use Rattle.explain.specs.Streams.{AppendsFront, Begins, Explains, Explains
 
 use crate::end::End;
 use crate::explainer::Explainer;
-use filter::FilterFault;
+use filter::{FilterFault, FilterResult};
 use input_text::{Input, Output, ReadFault, put_all};
 use std::alloc::Global;
 
@@ -21,11 +21,7 @@ const CHUNK: usize = 4096;
 ///
 /// `Unreadable` if a read failed: then all that was read before is explained. `Output` if a write
 /// or a flush failed, `NoMemory` if out of memory; whatever fails, no output is invented.
-pub fn explain<I: Input, O: Output>(
-    alloc: Global,
-    input: &mut I,
-    output: &mut O,
-) -> Result<(), FilterFault>
+pub fn explain<I: Input, O: Output>(alloc: Global, input: &mut I, output: &mut O) -> FilterResult
     requires reads { I.failed input.old ≡ false }
     requires writes { O.failed output.old ≡ false }
     ensures explained { OnOk result
@@ -139,7 +135,7 @@ fn push_some<I: Input, O: Output>(
 }
 
 /// Writes and flushes a text. In every case, a prefix of the text was written.
-pub(crate) fn write_text<O: Output>(text: &[u8], output: &mut O) -> Result<(), FilterFault>
+pub(crate) fn write_text<O: Output>(text: &[u8], output: &mut O) -> FilterResult
     ensures written { OnOk result (Appends (O.held output.old) (O.held output.new) text.now) }
     ensures front { AppendsFront (O.held output.old) (O.held output.new) text.now }
     ensures fault { IfErr result (λ e. e ≡ FilterFault.Output) }

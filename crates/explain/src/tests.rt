@@ -6,7 +6,7 @@ mod memory;
 mod words;
 
 use crate::Explain;
-use filter::{Filter, FilterFlags, execute};
+use filter::{FilterFlags, execute};
 use input_text::{Input, Output};
 use std::alloc::Global;
 use std::io::Write;
@@ -17,21 +17,12 @@ impl Program for Explain {
         "explain"
     }
 
-    fn execute<I: Input, O: Output, E: Write>(
-        &self,
-        alloc: Global,
-        on: Streams<'_, I, O, E>,
-    ) -> u8 {
+    fn execute<I: Input, O: Output, E: Write>(&self, alloc: Global, on: Streams<I, O, E>) -> u8 {
         let Streams(input, output, faults) = on;
-        let flags = FilterFlags {
-            first: false,
-            second: false,
-        };
         execute(
             &Explain,
-            Explain.text(),
             alloc,
-            flags,
+            FilterFlags::default(),
             "-",
             input,
             output,

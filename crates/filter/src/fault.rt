@@ -30,6 +30,9 @@ pub enum FilterFault {
     NoMemory,
 }
 
+/// The result of a run of a filter, or of a part of it.
+pub type FilterResult = Result<(), FilterFault>;
+
 impl From<ReadFault> for FilterFault {
     ghost from_gives = { λ read fault. fault ≡ of_read read };
 

@@ -4,7 +4,7 @@ ghost use Rattle.filter.specs.Fault.{is_unwritten};
 ghost use Rattle.filter.specs.declared.fault.FilterFault.{FilterFault};
 ghost use Rattle.filter.specs.declared.text.FilterFlags.{FilterFlags};
 
-use crate::fault::FilterFault;
+use crate::fault::FilterResult;
 use crate::text::{FilterFlags, FilterText};
 use input_text::{Input, Output};
 use std::alloc::Global;
@@ -30,7 +30,7 @@ pub trait Filter {
         flags: FilterFlags,
         input: &mut I,
         output: &mut O,
-    ) -> Result<(), FilterFault>
+    ) -> FilterResult
         requires reads { I.failed input.old ≡ false }
         requires writes { O.failed output.old ≡ false }
         ensures filtered { OnOk result

@@ -23,7 +23,7 @@ mod table;
 mod terminal;
 mod text;
 
-pub use fault::FilterFault;
+pub use fault::{FilterFault, FilterResult};
 pub use filter::Filter;
 pub use orders::filter_order;
 pub use running::{execute, execute_words};

@@ -3,31 +3,22 @@
 ghost use Rattle.std.specs.Prelude.{◌≡◌, [], IfErr, IfOk, map};
 ghost use Rattle.clap.specs.Words.{fault_of, found_of, rows_of};
 ghost use Rattle.clap.specs.declared.error.kind.ErrorKind.TheVariants.{InvalidValue};
-ghost use Rattle.command_line.specs.CommandLine.{rule_in};
 ghost use Rattle.command_line.specs.Fault.{IsOfKind, IsRejectedBy};
 ghost use Rattle.command_line.specs.Requests.{IsRequestedBy};
-ghost use Rattle.filter.specs.FilterLine.{IsFilterOrder, IsFlagIn, filter_app, filter_rules, flag_of};
+ghost use Rattle.filter.specs.FilterLine.{IsFilterOrder, IsFlagIn, filter_app, flag_of};
 
-use crate::table::{SOURCE, flag_argument, program_text};
+use crate::table::{arguments_of, program_text};
 use crate::text::{FilterFlag, FilterFlags, FilterOrder, FilterText};
 use clap::ArgMatches;
-use command_line::{Argument, OrderFault, file_name, flag, matches_of, not_utf8};
+use command_line::{OrderFault, file_name, flag, matches_of, not_utf8};
 use std::alloc::Global;
 
 /// Returns the text for an argument that is not UTF-8, followed by the usage of a filter.
 pub(crate) fn not_utf8_text(alloc: Global, text: FilterText<'_>) -> OrderFault
     ensures kind { IsOfKind InvalidValue result }
 {
-    match (text.flag, text.second_flag) {
-        (Some(flag), Some(second)) => not_utf8(
-            alloc,
-            &program_text(text, &[SOURCE, flag_argument(flag), flag_argument(second)]),
-        ),
-        (Some(flag), None) | (None, Some(flag)) => {
-            not_utf8(alloc, &program_text(text, &[SOURCE, flag_argument(flag)]))
-        }
-        (None, None) => not_utf8(alloc, &program_text(text, &[SOURCE])),
-    }
+    let arguments = arguments_of(text);
+    not_utf8(alloc, &program_text(text, arguments.as_slice()))
 }
 
 /// Whether a flag is set, if there is one.
@@ -38,33 +29,6 @@ fn is_set(found: &ArgMatches<'_>, text: Option<FilterFlag<'_>>) -> bool
         Some(text) => flag(found, text.name).unwrap_or(false),
         None => false,
     }
-}
-
-/// Parses the arguments of a filter that has these.
-fn order_by<'a>(
-    alloc: Global,
-    text: FilterText<'a>,
-    arguments: &[Argument<'a>],
-    words: &'a [&'a str],
-) -> Result<FilterOrder, OrderFault>
-    requires { map rule_in arguments.now ≡ filter_rules text }
-    ensures order { IfOk result
-        (IsFilterOrder text.entry (map (λ word. word.now) words.entry.now)) }
-    ensures taken { IfOk result
-        (λ _. fault_of (filter_app text.entry) (map (λ word. word.now) words.entry.now) ≡ []) }
-    ensures fault { IfErr result (IsRejectedBy
-        (fault_of (filter_app text.entry) (map (λ word. word.now) words.entry.now))) }
-    ensures requested { IfErr result (IsRequestedBy
-        (fault_of (filter_app text.entry) (map (λ word. word.now) words.entry.now))) }
-{
-    let matches = matches_of(alloc, &program_text(text, arguments), words)?;
-    Ok(FilterOrder {
-        file: file_name(alloc, &matches, "file")?,
-        flags: FilterFlags {
-            first: is_set(&matches, text.flag),
-            second: is_set(&matches, text.second_flag),
-        },
-    })
 }
 
 /// Parses the arguments of a filter, given without the program's name.
@@ -92,16 +56,13 @@ pub fn filter_order<'a>(
     ensures requested { IfErr result (IsRequestedBy
         (fault_of (filter_app text.entry) (map (λ word. word.now) words.entry.now))) }
 {
-    match (text.flag, text.second_flag) {
-        (Some(flag), Some(second)) => order_by(
-            alloc,
-            text,
-            &[SOURCE, flag_argument(flag), flag_argument(second)],
-            words,
-        ),
-        (Some(flag), None) | (None, Some(flag)) => {
-            order_by(alloc, text, &[SOURCE, flag_argument(flag)], words)
-        }
-        (None, None) => order_by(alloc, text, &[SOURCE], words),
-    }
+    let arguments = arguments_of(text);
+    let matches = matches_of(alloc, &program_text(text, arguments.as_slice()), words)?;
+    Ok(FilterOrder {
+        file: file_name(alloc, &matches, "file")?,
+        flags: FilterFlags {
+            first: is_set(&matches, text.flag),
+            second: is_set(&matches, text.second_flag),
+        },
+    })
 }

@@ -59,18 +59,17 @@ pub fn execute_words<F: Filter, R: Files + AllocGlobal, I: Input, O: Output, E: 
     ensures quiet { result ≡ 0 → faults.new ≡ faults.old }
 {
     match filter_order(rt.alloc(), text, words) {
-        Ok(order) => run_order(filter, text, rt, order, input, output, faults),
+        Ok(order) => run_order(filter, rt, order, input, output, faults),
         Err(fault) => answer(rt.alloc(), text.name, fault, output, faults),
     }
 }
 
-/// Runs a filter with these texts on an input, and returns the exit status, 0 to 6.
+/// Runs a filter on an input, and returns the exit status, 0 to 6.
 ///
 /// `flags` says which flags are set. `source` is the name of the input in fault lines. If the status
 /// is not 0, the reason is written to `faults`.
 pub fn execute<F: Filter, I: Input, O: Output, E: Write>(
     filter: &F,
-    text: FilterText<'_>,
     alloc: Global,
     flags: FilterFlags,
     source: &str,
@@ -94,14 +93,13 @@ pub fn execute<F: Filter, I: Input, O: Output, E: Write>(
 {
     match filter.run(alloc, flags, input, output) {
         Ok(()) => 0,
-        Err(fault) => fault.report(text, source, faults),
+        Err(fault) => fault.report(filter.text(), source, faults),
     }
 }
 
 /// Runs a filter on the file of an order, or on standard input.
 fn run_order<F: Filter, R: Files + AllocGlobal, I: Input, O: Output, E: Write>(
     filter: &F,
-    text: FilterText<'_>,
     rt: &R,
     order: FilterOrder,
     input: &mut I,
@@ -120,10 +118,9 @@ fn run_order<F: Filter, R: Files + AllocGlobal, I: Input, O: Output, E: Write>(
 {
     let flags = order.flags;
     match order.file {
-        Some(file) => run_on_file(filter, text, rt, flags, file, output, faults),
+        Some(file) => run_on_file(filter, rt, flags, file, output, faults),
         None => execute(
             filter,
-            text,
             rt.alloc(),
             flags,
             STANDARD_INPUT,
@@ -137,7 +134,6 @@ fn run_order<F: Filter, R: Files + AllocGlobal, I: Input, O: Output, E: Write>(
 /// Runs a filter on a file.
 fn run_on_file<F: Filter, R: Files + AllocGlobal, O: Output, E: Write>(
     filter: &F,
-    text: FilterText<'_>,
     rt: &R,
     flags: FilterFlags,
     file: FileName,
@@ -154,7 +150,6 @@ fn run_on_file<F: Filter, R: Files + AllocGlobal, O: Output, E: Write>(
     match open_file(rt, &file) {
         Ok(mut input) => execute(
             filter,
-            text,
             rt.alloc(),
             flags,
             file.as_str(),
@@ -162,7 +157,7 @@ fn run_on_file<F: Filter, R: Files + AllocGlobal, O: Output, E: Write>(
             output,
             faults,
         ),
-        Err(why) => StartFault::of_opening(file, why).report(text.name, faults),
+        Err(why) => StartFault::of_opening(file, why).report(filter.text().name, faults),
     }
 }
 

@@ -28,8 +28,8 @@ pub struct FilterText<'a> {
     pub second_flag: Option<FilterFlag<'a>>,
 }
 
-/// Which flags are set.
-#[derive(Clone, Copy)]
+/// Which flags are set; none by default.
+#[derive(Clone, Copy, Default)]
 pub struct FilterFlags {
     /// Whether the flag is set. Without a flag it is false.
     pub first: bool,

@@ -24,7 +24,7 @@ pub trait Program {
     fn name(&self) -> &'static str;
 
     /// Runs it on these streams, and returns the exit status.
-    fn execute<I: Input, O: Output, E: Write>(&self, alloc: Global, on: Streams<'_, I, O, E>) -> u8
+    fn execute<I: Input, O: Output, E: Write>(&self, alloc: Global, on: Streams<I, O, E>) -> u8
         requires reads { I.failed on.0.now ≡ false }
         requires writes { O.failed on.1.now ≡ false };
 }

@@ -154,17 +154,12 @@ fn write_address<O: Write>(reported_state: &ReportedState, output: &mut O) -> io
     }
 }
 
-fn write_kind<O: Write>(
-    kind: Kind,
-    reported_state: &ReportedState,
-    output: &mut O,
-) -> io::Result<()>
+fn write_kind<O: Write>(kind: Kind, state: &ReportedState, output: &mut O) -> io::Result<()>
     ensures { OnOk result
-        (Appends (O.contents output.old) (O.contents output.new)
-        (kind_name kind reported_state.now)) }
+        (Appends (O.contents output.old) (O.contents output.new) (kind_name kind state.now)) }
 {
     match kind {
-        Kind::Packets => write_address(reported_state, output),
+        Kind::Packets => write_address(state, output),
         Kind::Speed => output.write_all(b"speed"),
         Kind::Stops => output.write_all(b"stop"),
         Kind::Emergencies => output.write_all(b"emergency"),

@@ -7,7 +7,7 @@ ghost use Rattle.timeline.specs.Rows.{is_known, is_shown, lane_rows, lanes_of, r
 use crate::event::Event;
 use crate::levels::{is_named, is_parsed};
 use crate::row::{Kind, Part, Row};
-use filter::FilterFault;
+use filter::{FilterFault, FilterResult};
 use std::alloc::Global;
 use trace::{Name, Seen};
 
@@ -48,7 +48,7 @@ fn is_known(lanes: &[Seen], name: &Name) -> bool
 }
 
 /// Adds a lane if an event shows a decoder that has none.
-fn add_lane(lanes: &mut Vec<Seen>, event: &Event) -> Result<(), FilterFault>
+fn add_lane(lanes: &mut Vec<Seen>, event: &Event) -> FilterResult
     ensures lanes { IfOk result (λ _. lanes.new.items ≡ with_lane lanes.old.items event.now) }
     ensures few { IfOk result (λ _. vec_len lanes.new ≤ vec_len lanes.old + 1) }
     ensures fault { IfErr result (λ e. e ≡ NoMemory) }
@@ -84,12 +84,7 @@ fn is_shown(lane: &Seen, events: &[Event], kind: Kind) -> bool
     events.iter().any(|event| is_parsed(lane, kind, event))
 }
 
-fn add_row(
-    rows: &mut Vec<Row>,
-    lane: &Seen,
-    events: &[Event],
-    kind: &Kind,
-) -> Result<(), FilterFault>
+fn add_row(rows: &mut Vec<Row>, lane: &Seen, events: &[Event], kind: &Kind) -> FilterResult
     ensures rows { IfOk result
         (λ _. rows.new.items
         ≡ rows.old.items
@@ -105,12 +100,7 @@ fn add_row(
 }
 
 /// Adds those of these rows of a lane that have anything to show.
-fn add_rows(
-    rows: &mut Vec<Row>,
-    lane: &Seen,
-    events: &[Event],
-    kinds: &[Kind],
-) -> Result<(), FilterFault>
+fn add_rows(rows: &mut Vec<Row>, lane: &Seen, events: &[Event], kinds: &[Kind]) -> FilterResult
     ensures rows { IfOk result
         (λ _. rows.new.items ≡ rows.old.items ++ rows_in lane.now events.now kinds.now) }
     ensures few { IfOk result (λ _. vec_len rows.new ≤ vec_len rows.old + length kinds.now) }
@@ -122,7 +112,7 @@ fn add_rows(
     Ok(())
 }
 
-fn add_part(rows: &mut Vec<Row>, part: Part) -> Result<(), FilterFault>
+fn add_part(rows: &mut Vec<Row>, part: Part) -> FilterResult
     ensures rows { IfOk result (λ _. rows.new.items ≡ rows.old.items ++ Row.Strip part ∷ []) }
     ensures few { IfOk result (λ _. vec_len rows.new ≤ vec_len rows.old + 1) }
     ensures fault { IfErr result (λ e. e ≡ NoMemory) }
@@ -132,7 +122,7 @@ fn add_part(rows: &mut Vec<Row>, part: Part) -> Result<(), FilterFault>
 }
 
 /// Adds the parts of the strip of packets and messages.
-fn add_strip(rows: &mut Vec<Row>) -> Result<(), FilterFault>
+fn add_strip(rows: &mut Vec<Row>) -> FilterResult
     ensures rows { IfOk result (λ _. rows.new.items ≡ rows.old.items ++ strip) }
     ensures few { IfOk result (λ _. vec_len rows.new ≤ vec_len rows.old + 6) }
     ensures fault { IfErr result (λ e. e ≡ NoMemory) }
@@ -146,7 +136,7 @@ fn add_strip(rows: &mut Vec<Row>) -> Result<(), FilterFault>
 }
 
 /// Adds the rows of each lane.
-fn add_lanes(rows: &mut Vec<Row>, lanes: &[Seen], events: &[Event]) -> Result<(), FilterFault>
+fn add_lanes(rows: &mut Vec<Row>, lanes: &[Seen], events: &[Event]) -> FilterResult
     ensures rows { IfOk result
         (λ _. rows.new.items ≡ rows.old.items ++ lane_rows events.now lanes.now) }
     ensures few { IfOk result (λ _. vec_len rows.new ≤ vec_len rows.old + 26 * length lanes.now) }

@@ -7,7 +7,7 @@ use crate::drawing::{bottom_of, turns_in, write_picture};
 use crate::event::Event;
 use crate::reading::event_in;
 use crate::rows::rows_of;
-use filter::{FilterFault, FilterText};
+use filter::{FilterFault, FilterResult, FilterText};
 use input_text::{Output, put_all};
 use std::alloc::Global;
 use trace::{BadLine, Drawing};
@@ -39,12 +39,7 @@ impl Drawing for Timeline {
         event_in(line)
     }
 
-    fn draw<O: Output>(
-        &self,
-        alloc: Global,
-        events: &[Event],
-        output: &mut O,
-    ) -> Result<(), FilterFault> {
+    fn draw<O: Output>(&self, alloc: Global, events: &[Event], output: &mut O) -> FilterResult {
         let rows = rows_of(alloc, events)?;
         let turns = turns_in(events);
         let bottom = bottom_of(rows.as_slice());

@@ -4,7 +4,7 @@ ghost use Rattle.std.specs.Io.KnownBytes.{Appends};
 ghost use Rattle.filter.specs.Fault.{is_unwritten};
 ghost use Rattle.filter.specs.declared.fault.FilterFault.TheVariants.{NoMemory, Output};
 
-use filter::{FilterFault, FilterText};
+use filter::{FilterResult, FilterText};
 use input_text::Output;
 use std::alloc::Global;
 
@@ -35,12 +35,7 @@ pub trait Drawing {
         ensures exact { (item : Option Self.Item) → parses line.now item → result ≡ Ok item };
 
     /// Draws the results of lines, at most 16,777,216 of them.
-    fn draw<O: Output>(
-        &self,
-        alloc: Global,
-        item: &[Self::Item],
-        output: &mut O,
-    ) -> Result<(), FilterFault>
+    fn draw<O: Output>(&self, alloc: Global, item: &[Self::Item], output: &mut O) -> FilterResult
         requires few { length item.now ≤ 16777216 }
         requires writes { O.failed output.old ≡ false }
         ensures text { OnOk result

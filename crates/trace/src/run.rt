@@ -6,7 +6,7 @@ ghost use Rattle.filter.specs.Fault.{is_unread, is_unwritten};
 use crate::LONGEST_TEXT;
 use crate::drawing::Drawing;
 use crate::reading::read_lines;
-use filter::FilterFault;
+use filter::{FilterFault, FilterResult};
 use input_text::{Input, Output, read_limited};
 use std::alloc::Global;
 
@@ -16,7 +16,7 @@ pub fn draw<D: Drawing, I: Input, O: Output>(
     alloc: Global,
     input: &mut I,
     output: &mut O,
-) -> Result<(), FilterFault>
+) -> FilterResult
     requires reads { I.failed input.old ≡ false }
     requires writes { O.failed output.old ≡ false }
     ensures drawn { OnOk result

@@ -3,7 +3,7 @@ ghost use Rattle.trace.specs.Drawn.{DrawsInput, FailsToDraw};
 
 use crate::drawing::Drawing;
 use crate::run::draw;
-use filter::{Filter, FilterFault, FilterFlags, FilterText, run_filter};
+use filter::{Filter, FilterFlags, FilterResult, FilterText, run_filter};
 use input_text::{Input, Output};
 use std::alloc::Global;
 use std::process::ExitCode;
@@ -29,7 +29,7 @@ impl<D: Drawing> Filter for DrawingFilter<'_, D> {
         _flags: FilterFlags,
         input: &mut I,
         output: &mut O,
-    ) -> Result<(), FilterFault> {
+    ) -> FilterResult {
         draw(self.drawing, alloc, input, output)
     }
 }

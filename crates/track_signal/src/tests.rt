@@ -5,7 +5,7 @@ mod lines;
 mod memory;
 
 use crate::TrackSignal;
-use filter::{Filter, FilterFlags, execute};
+use filter::{FilterFlags, execute};
 use input_text::{Input, Output};
 use std::alloc::Global;
 use std::io::Write;
@@ -17,24 +17,15 @@ impl Program for TrackSignal {
         "track_signal"
     }
 
-    fn execute<I: Input, O: Output, E: Write>(
-        &self,
-        alloc: Global,
-        on: Streams<'_, I, O, E>,
-    ) -> u8 {
+    fn execute<I: Input, O: Output, E: Write>(&self, alloc: Global, on: Streams<I, O, E>) -> u8 {
         let Streams(input, output, faults) = on;
         let filter = DrawingFilter {
             drawing: &TrackSignal,
         };
-        let flags = FilterFlags {
-            first: false,
-            second: false,
-        };
         execute(
             &filter,
-            filter.text(),
             alloc,
-            flags,
+            FilterFlags::default(),
             "-",
             input,
             output,
