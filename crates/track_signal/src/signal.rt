@@ -3,11 +3,11 @@ ghost use Rattle.std.specs.Prelude.{false};
 ghost use Rattle.trace.specs.Traffic.{Parses};
 ghost use Rattle.track_signal.specs.Dump.{dump_of};
 
-use crate::drawing::draw_turns;
-use filter::{FilterFault, FilterText};
-use input_text::Output;
+use crate::drawing::{HEADER, ROOM, write_end, write_idle, write_sent};
+use filter::{FilterFault, FilterResult, FilterText};
+use input_text::{Output, put_all};
 use std::alloc::Global;
-use trace::{BadLine, Drawing, Turn, turn_in};
+use trace::{BadLine, Drawing, Turn, turn_in, turns_since};
 
 /// The signal on the rails. It is written packet by packet.
 pub struct TrackSignal;
@@ -36,12 +36,19 @@ impl Drawing for TrackSignal {
         turn_in(line).map_err(|_| BadLine)
     }
 
-    fn draw<O: Output>(
-        &self,
-        alloc: Global,
-        turns: &[Turn],
-        output: &mut O,
-    ) -> Result<(), FilterFault> {
-        draw_turns(alloc, turns, output)
+    fn draw<O: Output>(&self, alloc: Global, turns: &[Turn], output: &mut O) -> FilterResult {
+        let Ok(mut text) = Vec::with_capacity(alloc, ROOM) else {
+            return Err(FilterFault::NoMemory);
+        };
+        put_all(output, HEADER)?;
+        let mut time = 0;
+        let mut last = 0;
+        for turn in turns {
+            let between = turns_since(last, turn.number) - 1;
+            let began = write_idle(between, time, &mut text, output)?;
+            time = write_sent(&turn.packet, began, &mut text, output)?;
+            last = turn.number;
+        }
+        write_end(time, &mut text, output)
     }
 }

@@ -18,7 +18,7 @@ loop-left-preserved g c =
     let some : 0 < c.loop-left.left = omega (arith, c.loop-left-test.true) in
     let first = idle_first c.loop-left.left fewer some refl ∙ ap (λ (packet : List ℕ). halves_of packet ++ idle_halves fewer) (sym c.idle.ensures.bytes) in
     record {
-      drawn = dumped_more [] c.args.start (idle_halves c.args.count) c.loop-left.time (idle_halves c.loop-left.left) (halves_of c.idle.result) (idle_halves fewer) c.in_ok-time.time (g.O.Sink.held c.args.output.now) (g.O.Sink.held c.loop-left.output) (g.O.Sink.held c.write_packet.new.output)
+      drawn = dumped_more [] c.args.start (idle_halves c.args.count) c.loop-left.time (idle_halves c.loop-left.left) (halves_of c.idle.result) (idle_halves fewer) c.in_ok-time.time (g.O.Sink.held c.args.output.now) (g.O.Sink.held c.loop-left.output) (g.O.Sink.held c.write_sent.new.output)
           c.loop-left.invariant.drawn first (packet_low c.idle.result) c.in_ok-time.ensures.text c.in_ok-time.ensures.end;
       soon = omega (arith, c.loop-left.invariant.soon, c.in_ok-time.ensures.soon, some);
       writes = c.in_ok-time.ensures.unwritten;

@@ -1,7 +1,7 @@
 use Rattle.std.proofs.Common.{◌≡◌, ◌*◌, ◌≤◌, drop, false}
 use Rattle.track_signal.specs.Dump.{header, turn_halves}
 use Rattle.track_signal.proofs.Rails.{HasDumped}
-use Rattle.track_signal.proofs.drawing.draw_turns.Given as goal
+use Rattle.track_signal.proofs.signal.TrackSignalDrawing.draw.Given as goal
 
 abbrev pub invariant-loop-turn : goal.invariant-loop-turn
 invariant-loop-turn g l = record {

@@ -3,7 +3,7 @@ use Rattle.std.proofs.lemmas.List.{drop_more}
 use Rattle.trace.specs.declared.turn.Turn.{Turn}
 use Rattle.track_signal.specs.Dump.{header, idle_halves, sent_halves, turn_halves}
 use Rattle.track_signal.proofs.Rails.{dumped_all, dumped_more, dumped_none, idle_low, sent_low, turns_end, turns_more}
-use Rattle.track_signal.proofs.drawing.draw_turns.Goals as goal
+use Rattle.track_signal.proofs.signal.TrackSignalDrawing.draw.Goals as goal
 
 pub loop-turn-init : goal.loop-turn-init
 loop-turn-init g c = record {
