@@ -203,25 +203,25 @@ fn reads_lines(rt: HostRuntime) {
         assert!(rt; sends, "{text:?}");
     }
     for (text, reason) in INVALID {
-        let is_invalid = match request_of(&rt, text) {
-            Some(Request::Invalid(found)) => found == reason,
-            _ => false,
-        };
-        assert!(rt; is_invalid, "{text:?}");
+        let request = request_of(&rt, text);
+        assert!(rt;
+            matches!(request, Some(Request::Invalid(found)) if found == reason),
+            "{text:?}"
+        );
     }
     for (text, count) in TURNS {
-        let turns = match request_of(&rt, text) {
-            Some(Request::Turns(found)) => found == count,
-            _ => false,
-        };
-        assert!(rt; turns, "{text:?}");
+        let request = request_of(&rt, text);
+        assert!(rt;
+            matches!(request, Some(Request::Turns(found)) if found == count),
+            "{text:?}"
+        );
     }
     for (text, things) in STATES {
-        let asks = match request_of(&rt, text) {
-            Some(Request::States(found)) => found == things,
-            _ => false,
-        };
-        assert!(rt; asks, "{text:?}");
+        let request = request_of(&rt, text);
+        assert!(rt;
+            matches!(request, Some(Request::States(found)) if found == things),
+            "{text:?}"
+        );
     }
     for text in IDLE {
         assert!(rt; request_of(&rt, text).is_none(), "{text:?}");
@@ -241,11 +241,11 @@ fn reads_places(rt: HostRuntime) -> Result<(), Fail> {
         assert_eq!(rt; placement.facing, facing, "{text:?}");
     }
     for (text, error) in NO_PLACES {
-        let is_refused = match request_of(&rt, text) {
-            Some(Request::Place(Err(found))) => found == error,
-            _ => false,
-        };
-        assert!(rt; is_refused, "{text:?}");
+        let request = request_of(&rt, text);
+        assert!(rt;
+            matches!(request, Some(Request::Place(Err(found))) if found == error),
+            "{text:?}"
+        );
     }
     Ok(())
 }
