@@ -1,8 +1,9 @@
-//! Programs on their three streams, and the results of runs.
+//! Filters on their three streams, and the results of runs.
 ghost use Rattle.std.specs.Prelude.{◌≡◌, false};
 
 use crate::devices::Broken;
 use crate::memory::Scarcity;
+use filter::{Filter, FilterFlags, execute};
 use input_text::{Input, Output, TrackedReader, TrackedWriter};
 use std::alloc::{AllocError, Global};
 use std::io::{Read, Write};
@@ -14,20 +15,6 @@ const STEP: usize = 16;
 
 /// The most runs with too little memory.
 const MOST_REFUSED: u32 = 40_000;
-
-/// The three streams of a run: standard input, standard output and standard error.
-pub struct Streams<'a, I, O, E>(pub &'a mut I, pub &'a mut O, pub &'a mut E);
-
-/// A program without arguments.
-pub trait Program {
-    /// The name with which its fault lines begin.
-    fn name(&self) -> &'static str;
-
-    /// Runs it on these streams, and returns the exit status.
-    fn execute<I: Input, O: Output, E: Write>(&self, alloc: Global, on: Streams<I, O, E>) -> u8
-        requires reads { I.failed on.0.now ≡ false }
-        requires writes { O.failed on.1.now ≡ false };
-}
 
 /// The status and the output of a run.
 #[derive(Drop)]
@@ -49,10 +36,32 @@ impl Ran {
     }
 }
 
-/// Runs a program on this reader.
-pub fn run_from<P: Program, R: Read>(program: &P, alloc: Global, reader: &mut R) -> Ran {
+/// Runs a filter without flags on these streams, and returns the exit status.
+fn run_on<F: Filter, I: Input, O: Output, E: Write>(
+    filter: &F,
+    alloc: Global,
+    input: &mut I,
+    output: &mut O,
+    faults: &mut E,
+) -> u8
+    requires reads { I.failed input.old ≡ false }
+    requires writes { O.failed output.old ≡ false }
+{
+    execute(
+        filter,
+        alloc,
+        FilterFlags::default(),
+        "-",
+        input,
+        output,
+        faults,
+    )
+}
+
+/// Runs a filter on this reader.
+pub fn run_from<F: Filter, R: Read>(filter: &F, alloc: Global, reader: &mut R) -> Ran {
     let mut output = Vec::new(alloc);
-    let (status, faults) = run_to(program, alloc, reader, &mut output);
+    let (status, faults) = run_to(filter, alloc, reader, &mut output);
     Ran {
         status,
         output,
@@ -60,16 +69,16 @@ pub fn run_from<P: Program, R: Read>(program: &P, alloc: Global, reader: &mut R)
     }
 }
 
-/// Runs a program on this text.
-pub fn run<P: Program>(program: &P, alloc: Global, text: &[u8]) -> Ran {
+/// Runs a filter on this text.
+pub fn run<F: Filter>(filter: &F, alloc: Global, text: &[u8]) -> Ran {
     let mut reader = text;
-    run_from(program, alloc, &mut reader)
+    run_from(filter, alloc, &mut reader)
 }
 
-/// Runs a program on this reader and with this output. Returns the status and the text on standard
+/// Runs a filter on this reader and with this output. Returns the status and the text on standard
 /// error.
-pub fn run_to<P: Program, R: Read, O: Write>(
-    program: &P,
+pub fn run_to<F: Filter, R: Read, O: Write>(
+    filter: &F,
     alloc: Global,
     reader: &mut R,
     output: &mut O,
@@ -77,18 +86,18 @@ pub fn run_to<P: Program, R: Read, O: Write>(
     let mut faults = Vec::new(alloc);
     let mut input = TrackedReader::new(reader);
     let mut output = TrackedWriter::new(output);
-    let status = program.execute(alloc, Streams(&mut input, &mut output, &mut faults));
+    let status = run_on(filter, alloc, &mut input, &mut output, &mut faults);
     (status, faults)
 }
 
 /// Returns the status of a run on this reader whose standard error cannot be written.
-pub fn run_unreported<P: Program, R: Read>(program: &P, alloc: Global, reader: &mut R) -> u8 {
+pub fn run_unreported<F: Filter, R: Read>(filter: &F, alloc: Global, reader: &mut R) -> u8 {
     let mut output = TrackedWriter::new(Vec::new(alloc));
     let mut input = TrackedReader::new(reader);
-    program.execute(alloc, Streams(&mut input, &mut output, &mut Broken::new()))
+    run_on(filter, alloc, &mut input, &mut output, &mut Broken::new())
 }
 
-/// Runs a program on this text with more and more memory, from none, until a run does not report
+/// Runs a filter on this text with more and more memory, from none, until a run does not report
 /// that memory ran out: with this fault line, no output and status 6. Returns the number of runs
 /// that did, and the result of the first other run, or else of the last. The memory of the results
 /// is taken at the start.
@@ -96,14 +105,14 @@ pub fn run_unreported<P: Program, R: Read>(program: &P, alloc: Global, reader: &
 /// # Errors
 ///
 /// The process had too little memory at the start.
-pub fn run_as_room_grows<P: Program>(
-    program: &P,
+pub fn run_as_room_grows<F: Filter>(
+    filter: &F,
     alloc: Global,
     text: &[u8],
     no_memory: &[u8],
 ) -> Result<(u32, Ran), AllocError> {
     // The stack grows to all that a run needs of it, while memory is available.
-    let mut ran = run(program, alloc, text);
+    let mut ran = run(filter, alloc, text);
     ran.output = Vec::with_capacity(alloc, 16_384)?;
     ran.faults = Vec::with_capacity(alloc, 64)?;
     let mut scarcity = Scarcity::new(alloc)?;
@@ -113,8 +122,7 @@ pub fn run_as_room_grows<P: Program>(
         let mut input = TrackedReader::new(text);
         scarcity.leave(refused as usize * STEP)?;
         let mut output = TrackedWriter::new(mem::replace(&mut ran.output, Vec::new(alloc)));
-        let streams = Streams(&mut input, &mut output, &mut ran.faults);
-        ran.status = program.execute(alloc, streams);
+        ran.status = run_on(filter, alloc, &mut input, &mut output, &mut ran.faults);
         ran.output = output.into_inner();
         scarcity.relax();
         if ran.status != 6 || !ran.output.is_empty() || ran.faults.as_slice() != no_memory {

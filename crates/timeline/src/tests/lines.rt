@@ -1,7 +1,7 @@
 //! Lines and their drawing, worked out by hand: a turn is 1,000 pixels divided by all turns, from
 //! 170 on.
 
-use crate::Timeline;
+use super::filter;
 use std::test::Fail;
 use test_support::run;
 
@@ -83,7 +83,7 @@ const MARKS: [(&'static [u8], &'static [u8]); 17] = [
 #[test]
 fn marks_are_drawn(rt: HostRuntime) {
     for (text, part) in MARKS {
-        let ran = run(&Timeline, rt.alloc(), text);
+        let ran = run(&filter(), rt.alloc(), text);
         assert_eq!(rt; ran.status, 0);
         assert_eq!(rt; ran.faults.as_slice(), b"".as_slice());
         assert!(rt; has(ran.output.as_slice(), part));
@@ -93,7 +93,7 @@ fn marks_are_drawn(rt: HostRuntime) {
 #[test]
 fn what_is_never_on_has_no_row(rt: HostRuntime) {
     let ran = run(
-        &Timeline,
+        &filter(),
         rt.alloc(),
         b"node s short 3 stop forward F 0010000000000\nnode y module 1 outputs 00000000\n",
     );
@@ -139,7 +139,7 @@ fn lines_with_a_fault_are_refused(rt: HostRuntime) -> Result<(), Fail> {
         ),
     ];
     for (text, line) in rows {
-        let ran = run(&Timeline, rt.alloc(), text);
+        let ran = run(&filter(), rt.alloc(), text);
         let reported = format!(in rt.alloc(); "timeline: line {line}: bad line\n")?;
         assert!(rt; ran.is(5, b"", reported.as_str().as_bytes()));
     }

@@ -4,7 +4,7 @@
 //! This test takes the memory of the process, and so needs the allocator of the C library:
 //! `rt test`, and not `rt try`.
 
-use crate::Timeline;
+use super::filter;
 use std::test::Fail;
 use test_support::run_with_little_memory;
 
@@ -14,7 +14,7 @@ const DECODER: &[u8] = b"node shunter short 3 step 63 of 128 reverse F 101000000
 #[test]
 fn a_run_grows_or_says_so(rt: HostRuntime) -> Result<(), Fail> {
     let end = b"</g>\n</svg>\n";
-    let (refused, drew_all) = run_with_little_memory(&Timeline, rt.alloc(), DECODER, end)?;
+    let (refused, drew_all) = run_with_little_memory(&filter(), rt.alloc(), DECODER, end)?;
     println!(rt; "refused {refused} times")?;
     assert!(rt; refused > 0 && drew_all);
     Ok(())

@@ -1,7 +1,7 @@
 //! Lines and their drawing, worked out by hand from the figures of S-9.1 and S-9.2 and the format
 //! of IEEE 1364.
 
-use crate::TrackSignal;
+use super::filter;
 use std::alloc::Global;
 use std::io::Write;
 use std::test::Fail;
@@ -61,7 +61,7 @@ fn packets_are_drawn(rt: HostRuntime) -> Result<(), Fail> {
         ),
     ];
     for (text, bits) in rows {
-        let ran = run(&TrackSignal, rt.alloc(), text);
+        let ran = run(&filter(), rt.alloc(), text);
         assert!(rt; ran.is(0, drawn(rt.alloc(), bits)?.as_slice(), b""));
     }
     Ok(())
@@ -71,7 +71,7 @@ fn packets_are_drawn(rt: HostRuntime) -> Result<(), Fail> {
 fn two_packets_end_at_their_sum(rt: HostRuntime) {
     // 7,596 microseconds and 5,796.
     let ran = run(
-        &TrackSignal,
+        &filter(),
         rt.alloc(),
         b"track 1 03 3F C0 FC\ntrack 2 FF 00 FF\n",
     );
@@ -108,7 +108,7 @@ fn lines_with_a_fault_are_refused(rt: HostRuntime) -> Result<(), Fail> {
         (b"\n\n\ntrack 1 FF 00 FF\n\ntrack 2 on\n", 6),
     ];
     for (text, line) in rows {
-        let ran = run(&TrackSignal, rt.alloc(), text);
+        let ran = run(&filter(), rt.alloc(), text);
         let expected = format!(in rt.alloc(); "track_signal: line {line}: bad track line\n")?;
         assert!(rt; ran.is(5, b"", expected.as_str().as_bytes()));
     }

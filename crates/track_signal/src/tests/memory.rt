@@ -4,14 +4,14 @@
 //! This test takes the memory of the process, and so needs the allocator of the C library:
 //! `rt test`, and not `rt try`.
 
-use crate::TrackSignal;
+use super::filter;
 use std::test::Fail;
 use test_support::run_with_little_memory;
 
 #[test]
 fn a_run_grows_or_says_so(rt: HostRuntime) -> Result<(), Fail> {
     // Six times 5,796 microseconds.
-    let (refused, drew_all) = run_with_little_memory(&TrackSignal, rt.alloc(), b"", b"\n#34776\n")?;
+    let (refused, drew_all) = run_with_little_memory(&filter(), rt.alloc(), b"", b"\n#34776\n")?;
     println!(rt; "refused {refused} times")?;
     assert!(rt; refused > 0 && drew_all);
     Ok(())
