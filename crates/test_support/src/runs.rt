@@ -36,6 +36,13 @@ impl Ran {
     }
 }
 
+impl Ran {
+    /// Whether the run reported no fault, and its output ends like this.
+    pub fn has_drawn_up_to(&self, end: &[u8]) -> bool {
+        self.status == 0 && self.faults.is_empty() && self.output.as_slice().ends_with(end)
+    }
+}
+
 /// Runs a filter without flags on these streams, and returns the exit status.
 fn run_on<F: Filter, I: Input, O: Output, E: Write>(
     filter: &F,
@@ -44,8 +51,7 @@ fn run_on<F: Filter, I: Input, O: Output, E: Write>(
     output: &mut O,
     faults: &mut E,
 ) -> u8
-    requires reads { I.failed input.old ≡ false }
-    requires writes { O.failed output.old ≡ false }
+    requires { (I.failed input.old ≡ false) × (O.failed output.old ≡ false) }
 {
     execute(
         filter,

@@ -33,7 +33,7 @@ fn reports_unreadable_input<F: Filter>(filter: &F, alloc: Global, unread: &[u8])
 /// Whether interrupted reads are tried again.
 fn retries_interrupted_reads<F: Filter>(filter: &F, alloc: Global, end: &[u8]) -> bool {
     let ran = run_from(filter, alloc, &mut Uneven::new(ONE_PACKET, 5, None));
-    ran.status == 0 && ran.output.as_slice().ends_with(end)
+    ran.has_drawn_up_to(end)
 }
 
 /// Whether a long input is read one byte past the limit.
@@ -121,7 +121,7 @@ pub fn first_failure<F: Filter>(
 }
 
 /// Runs a filter on six packets and `more`, with ever more memory, from none until a run succeeds. Returns how many runs
-/// reported `no memory`, and whether the first other one drew all, up to `end`.
+/// reported `no memory`, and the result of the first other one.
 ///
 /// This takes the memory of the process, and so needs the allocator of the C library: `rt test`, and not `rt try`.
 ///
@@ -132,13 +132,10 @@ pub fn run_with_little_memory<F: Filter>(
     filter: &F,
     alloc: Global,
     more: &[u8],
-    end: &[u8],
-) -> Result<(u32, bool), AllocError> {
+) -> Result<(u32, Ran), AllocError> {
     let mut text = Vec::new(alloc);
     text.extend_from_slice(IDLES)?;
     text.extend_from_slice(more)?;
     let no_memory = fault_line(alloc, filter.text().name, "no memory")?;
-    let (refused, ran) = run_as_room_grows(filter, alloc, text.as_slice(), no_memory.as_bytes())?;
-    let drew_all = ran.status == 0 && ran.faults.is_empty() && ran.output.as_slice().ends_with(end);
-    Ok((refused, drew_all))
+    run_as_room_grows(filter, alloc, text.as_slice(), no_memory.as_bytes())
 }

@@ -5,7 +5,7 @@ use super::kept::{Entry, Seen};
 use super::memory::Input::{Closes, Connects, Nothing, Sends};
 use super::memory::{Input, Place};
 use super::script_run::{
-    Run, Setup, accepted, closed, disconnects_by_overflow, longest_times, messages,
+    FOREVER, Run, Setup, accepted, closed, disconnects_by_overflow, longest_times, messages,
     messages_before_overflow, overflows, repeated, run_server, skips, text_to, turns,
 };
 use bus_server::Stop;
@@ -38,8 +38,8 @@ struct Case {
     ended: Ended,
     /// What each client received after the version, from client 0 on.
     received: &'static [&'static [u8]],
-    /// The longest time of each wait.
-    longest: Option<&'static [Option<u32>]>,
+    /// The longest time of each wait, or `FOREVER`.
+    longest: Option<&'static [u32]>,
     /// The index of each pending client, or `None` where it was refused.
     accepted: Option<&'static [Option<u8>]>,
     /// The times that were skipped, and whether the first of them comes before all else.
@@ -132,16 +132,7 @@ const CASES: &[Case] = &[
             readings: &[10_000_000, 2_708, 1_000_000, 1_000_001],
             ..BARE
         },
-        longest: Some(&[
-            Some(5_796),
-            Some(0),
-            Some(2_708),
-            Some(5_796),
-            Some(0),
-            Some(2_708),
-            Some(0),
-            Some(5_416),
-        ]),
+        longest: Some(&[5_796, 0, 2_708, 5_796, 0, 2_708, 0, 5_416]),
         skipped: &[9_000_000, 1],
         skips_first: true,
         turns: 172 + 1 + 172 + 173,
@@ -154,7 +145,7 @@ const CASES: &[Case] = &[
             ..BARE
         },
         ended: Ended::AtClock,
-        longest: Some(&[Some(5_796), Some(5_796)]),
+        longest: Some(&[5_796, 5_796]),
         ..QUIET
     },
     // There may be more input after a client was accepted or read, and none after it closed.
@@ -172,15 +163,7 @@ const CASES: &[Case] = &[
             readings: &[3 * 5_796, 0, 0, 796, 5_000, 1],
             ..BARE
         },
-        longest: Some(&[
-            Some(5_796),
-            Some(5_796),
-            Some(0),
-            Some(0),
-            Some(5_000),
-            Some(5_796),
-            Some(5_795),
-        ]),
+        longest: Some(&[5_796, 5_796, 0, 0, 5_000, 5_796, 5_795]),
         turns: 4,
         messages: 1,
         ..QUIET
@@ -193,7 +176,7 @@ const CASES: &[Case] = &[
             turns: Some(1),
             ..BARE
         },
-        longest: Some(&[None, Some(0), Some(0), None, None]),
+        longest: Some(&[FOREVER, 0, 0, FOREVER, FOREVER]),
         turns: 1,
         messages: 1,
         ..QUIET
@@ -298,20 +281,7 @@ const CASES: &[Case] = &[
             turns: Some(0),
             ..BARE
         },
-        longest: Some(&[
-            None,
-            Some(0),
-            Some(0),
-            Some(0),
-            Some(0),
-            Some(0),
-            Some(0),
-            Some(0),
-            Some(0),
-            Some(0),
-            None,
-            Some(0),
-        ]),
+        longest: Some(&[FOREVER, 0, 0, 0, 0, 0, 0, 0, 0, 0, FOREVER, 0]),
         accepted: Some(&[
             Some(0),
             Some(1),

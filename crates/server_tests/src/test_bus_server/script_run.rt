@@ -107,10 +107,13 @@ fn picked<R: Place, T, U: Drop, F: Fn(&T) -> Option<U>>(rt: &R, items: &[T], pic
     found
 }
 
-/// The longest time of each wait.
-pub(crate) fn longest_times<R: Place>(rt: &R, entries: &[Entry]) -> Vec<Option<u32>> {
+/// The longest time of a wait without end.
+pub(crate) const FOREVER: u32 = u32::MAX;
+
+/// The longest time of each wait, or `FOREVER`.
+pub(crate) fn longest_times<R: Place>(rt: &R, entries: &[Entry]) -> Vec<u32> {
     picked(rt, entries, |entry| match entry {
-        Entry::Polled(longest) => Some(*longest),
+        Entry::Polled(longest) => Some(longest.unwrap_or(FOREVER)),
         _ => None,
     })
 }
