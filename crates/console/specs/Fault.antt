@@ -1,13 +1,13 @@
 -- The exit status of a fault, and the numbers of faults.
 use Rattle.std.specs.Prelude.{ℕ, ◌==◌, Bool, true, false, List, Result, Ok, Err}
-use Rattle.show_text.specs.declared.command.Why.{Why as ScriptWhy}
-use Rattle.show_text.specs.declared.command.Why.TheVariants as script
+use Rattle.show_text.specs.declared.command.ScriptFaultKind.{ScriptFaultKind as ScriptWhy}
+use Rattle.show_text.specs.declared.command.ScriptFaultKind.TheVariants as script
 use Rattle.show_text.specs.declared.command.ScriptFault.{ScriptFault}
 use Rattle.text.specs.declared.hex_text.HexWhy.{HexWhy}
 use Rattle.text.specs.declared.hex_text.HexWhy.TheVariants as hex
 use Rattle.text.specs.declared.hex_text.HexFault.{HexFault}
-use Rattle.roster.specs.declared.fault.Why.{Why as RosterWhy}
-use Rattle.roster.specs.declared.fault.Why.TheVariants as roster
+use Rattle.roster.specs.declared.fault.RosterFaultKind.{RosterFaultKind as RosterWhy}
+use Rattle.roster.specs.declared.fault.RosterFaultKind.TheVariants as roster
 use Rattle.roster.specs.declared.fault.RosterFault.{RosterFault}
 use Rattle.input_text.specs.declared.input.ReadFault.{ReadFault}
 use Rattle.input_text.specs.Fault.{either}

@@ -115,7 +115,7 @@ impl From<RosterFault> for RunFault {
 
     fn from(fault: RosterFault) -> RunFault {
         match fault.why {
-            roster::Why::NoMemory => RunFault::NoMemory,
+            roster::RosterFaultKind::NoMemory => RunFault::NoMemory,
             why => RunFault::Roster {
                 number: why as u8,
                 node: fault.node,
@@ -129,13 +129,13 @@ impl From<ScriptFault> for RunFault {
 
     fn from(fault: ScriptFault) -> RunFault {
         let number = match fault.why {
-            show_text::Why::BadWord => 1,
-            show_text::Why::BadHex => 2,
-            show_text::Why::BadNumber => 3,
-            show_text::Why::BadLine => 4,
-            show_text::Why::BadNode => 5,
-            show_text::Why::TooLong => 6,
-            show_text::Why::NoMemory => return RunFault::NoMemory,
+            show_text::ScriptFaultKind::BadWord => 1,
+            show_text::ScriptFaultKind::BadHex => 2,
+            show_text::ScriptFaultKind::BadNumber => 3,
+            show_text::ScriptFaultKind::BadLine => 4,
+            show_text::ScriptFaultKind::BadNode => 5,
+            show_text::ScriptFaultKind::TooLong => 6,
+            show_text::ScriptFaultKind::NoMemory => return RunFault::NoMemory,
         };
         RunFault::Script {
             number,

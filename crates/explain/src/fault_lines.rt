@@ -2,7 +2,7 @@
 ghost use Rattle.std.specs.Prelude.{◌≡◌, ◌≤◌, length};
 ghost use Rattle.explain.specs.FaultLines.{fault_in, fault_words, hex_fault, names_program, roster_fault, script_fault, serve_fault};
 
-use roster::Why;
+use roster::RosterFaultKind;
 use text::cut_piece;
 
 /// Returns the fault of this number of a roster.
@@ -12,14 +12,14 @@ fn roster_fault(number: &[u8]) -> &'static str
     ensures len { length result.now ≤ 90 }
 {
     match number {
-        [b'1'] => Why::NotToml.words(),
-        [b'2'] => Why::BadShape.words(),
-        [b'3'] => Why::TooMany.words(),
-        [b'4'] => Why::BadName.words(),
-        [b'5'] => Why::BadCv.words(),
-        [b'6'] => Why::BadModule.words(),
-        [b'7'] => Why::Empty.words(),
-        [b'9'] => Why::BadCvList.words(),
+        [b'1'] => RosterFaultKind::NotToml.words(),
+        [b'2'] => RosterFaultKind::BadShape.words(),
+        [b'3'] => RosterFaultKind::TooMany.words(),
+        [b'4'] => RosterFaultKind::BadName.words(),
+        [b'5'] => RosterFaultKind::BadCv.words(),
+        [b'6'] => RosterFaultKind::BadModule.words(),
+        [b'7'] => RosterFaultKind::Empty.words(),
+        [b'9'] => RosterFaultKind::BadCvList.words(),
         _ => "",
     }
 }

@@ -4,7 +4,7 @@ ghost use Rattle.roster.specs.Decoders.{entries_of};
 ghost use Rattle.roster.specs.Entry.{Entry};
 ghost use Rattle.lbserver.specs.Execution.{IsRailwayOf, IsEnd, status_of};
 ghost use Rattle.lbserver.specs.PlanFaults.{HasPlanFault};
-ghost use Rattle.railway_plan.specs.declared.fault.Why.TheVariants.{NoMemory};
+ghost use Rattle.railway_plan.specs.declared.fault.Reason.TheVariants.{NoMemory};
 ghost use Rattle.railway_plan.specs.Railways.{IsFaultIn, IsRailwayIn};
 
 use crate::fault::ServerFault;
@@ -66,7 +66,7 @@ fn fault_of(alloc: Global, file: FileName, text: &[u8], fault: PlanTextFault) ->
     ensures status { 1 < status_of result }
     ensures not_network { (status_of result == 4) ≡ false }
 {
-    if let railway_plan::Why::NoMemory = fault.why {
+    if let railway_plan::Reason::NoMemory = fault.why {
         return ServerFault::Run(RunFault::NoMemory);
     }
     match locate(alloc, text, fault) {

@@ -2,7 +2,7 @@
 ghost use Rattle.std.specs.Prelude.{◌≡◌, ◌≢◌, ◌==◌, ◌<◌, Ok, Err, IfErr, IfOk, is_some, false, true};
 ghost use Rattle.console.specs.Files.{IsRosterOf};
 ghost use Rattle.roster.specs.Format.{roster_in};
-ghost use Rattle.roster.specs.declared.fault.Why.TheVariants.{NoMemory};
+ghost use Rattle.roster.specs.declared.fault.RosterFaultKind.TheVariants.{NoMemory};
 ghost use Rattle.lbserver.specs.Execution.{IsEnd, status_of};
 ghost use Rattle.lbserver.specs.RosterFaults.{HasFault};
 
@@ -53,7 +53,7 @@ fn fault_of(alloc: Global, file: FileName, text: &[u8], fault: RosterFault) -> S
     ensures status { 1 < status_of result }
     ensures not_network { (status_of result == 4) ≡ false }
 {
-    if let roster::Why::NoMemory = fault.why {
+    if let roster::RosterFaultKind::NoMemory = fault.why {
         return ServerFault::Run(RunFault::NoMemory);
     }
     match fault_details(alloc, text, fault.node) {

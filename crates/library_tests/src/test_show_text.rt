@@ -49,7 +49,7 @@ fn check_script(rt: &impl Abort, alloc: Global, text: &[u8], wanted: Option<Scri
 }
 
 // Scripts of one line each with this fault, separated by a bar.
-fn check_lines(rt: &impl Abort, alloc: Global, scripts: &[u8], why: Why) {
+fn check_lines(rt: &impl Abort, alloc: Global, scripts: &[u8], why: ScriptFaultKind) {
     for text in scripts.split(|byte| *byte == b'|') {
         check_script(rt, alloc, text, Some(ScriptFault { why, line: 1 }));
     }
@@ -62,29 +62,47 @@ fn refuses_a_script_by_its_first_fault(rt: HostRuntime) {
         &rt,
         alloc,
         b"line|line 0|line 0 \t|lien 0 83|LINE 0 83|lines 0 83| # no comment|turn|turn 1 miss|turn 1 2|turn 1 missed 0|show now|show\r",
-        Why::BadWord,
+        ScriptFaultKind::BadWord,
     );
     check_lines(
         &rt,
         alloc,
         b"line 0 8|line 0 83 7G|line 0 837C|line 0 83\r",
-        Why::BadHex,
+        ScriptFaultKind::BadHex,
     );
     check_lines(
         &rt,
         alloc,
         b"line 12345678 83|line x|line -1 83|turn 0|turn 1000001|turn 0 2|turn 1 miss x",
-        Why::BadNumber,
+        ScriptFaultKind::BadNumber,
     );
-    check_lines(&rt, alloc, b"line 8|line 8 83|line 8 8", Why::BadLine);
-    check_lines(&rt, alloc, b"turn 1 miss 0|turn 1 miss 0 x", Why::BadNode);
+    check_lines(
+        &rt,
+        alloc,
+        b"line 8|line 8 83|line 8 8",
+        ScriptFaultKind::BadLine,
+    );
+    check_lines(
+        &rt,
+        alloc,
+        b"turn 1 miss 0|turn 1 miss 0 x",
+        ScriptFaultKind::BadNode,
+    );
 }
 
 #[test]
 fn tells_the_line_of_the_first_fault(rt: HostRuntime) {
-    let rows: [(&[u8], Why, u64); 2] = [
-        (b"\n# one\nline 0 83\nline 8\nline", Why::BadLine, 4),
-        (b"show\r\nturn 1\r\nturn 1 miss 0 0\r\n", Why::BadNode, 3),
+    let rows: [(&[u8], ScriptFaultKind, u64); 2] = [
+        (
+            b"\n# one\nline 0 83\nline 8\nline",
+            ScriptFaultKind::BadLine,
+            4,
+        ),
+        (
+            b"show\r\nturn 1\r\nturn 1 miss 0 0\r\n",
+            ScriptFaultKind::BadNode,
+            3,
+        ),
     ];
     for (text, why, line) in rows {
         check_script(&rt, rt.alloc(), text, Some(ScriptFault { why, line }));
@@ -106,7 +124,7 @@ fn refuses_long_texts_before_all_else(rt: HostRuntime) -> Result<(), Fail> {
     check_hex(&rt, rt.alloc(), text.as_slice(), None);
     text.push(b'?')?;
     let long = ScriptFault {
-        why: Why::TooLong,
+        why: ScriptFaultKind::TooLong,
         line: 0,
     };
     check_script(&rt, rt.alloc(), text.as_slice(), Some(long));

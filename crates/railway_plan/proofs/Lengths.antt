@@ -6,18 +6,18 @@ use Rattle.toml.specs.View.{items_view, view}
 use Rattle.toml.proofs.Views.{items_view-drop}
 use Rattle.roster.specs.Toml.{items_len}
 use Rattle.railway_plan.specs.declared.fault.Section.{Section}
-use Rattle.railway_plan.specs.declared.fault.Why.{Why}
+use Rattle.railway_plan.specs.declared.fault.Reason.{Reason}
 use Rattle.railway_plan.specs.Format.{part_of, parts_after}
 
 pub items_len_view : (values : List Value) → items_len (items_view values) ≡ length values
 items_len_view [] = refl
 items_len_view (value ∷ values) = omega (arith, items_len_view values)
 
-pub part_read : {A : Type 0} (of_table : Members → Result A Why) (place : ℕ → Section) (values : List Value) (i : ℕ) (d : Value) (earlier : List A) (part : A) → i < length values → part_of of_table (view (get_or values i d)) ≡ Ok part
+pub part_read : {A : Type 0} (of_table : Members → Result A Reason) (place : ℕ → Section) (values : List Value) (i : ℕ) (d : Value) (earlier : List A) (part : A) → i < length values → part_of of_table (view (get_or values i d)) ≡ Ok part
     → parts_after of_table place earlier (items_view (drop i values)) ≡ parts_after of_table place (earlier ++ part ∷ []) (items_view (drop (i + 1) values))
 part_read of_table place values i d earlier part within e = rw (items_view-drop values i d within, e) refl
 
-pub part_refused : {A : Type 0} (of_table : Members → Result A Why) (place : ℕ → Section) (values : List Value) (i : ℕ) (d : Value) (earlier : List A) (why : Why) → i < length values → part_of of_table (view (get_or values i d)) ≡ Err why
+pub part_refused : {A : Type 0} (of_table : Members → Result A Reason) (place : ℕ → Section) (values : List Value) (i : ℕ) (d : Value) (earlier : List A) (why : Reason) → i < length values → part_of of_table (view (get_or values i d)) ≡ Err why
     → parts_after of_table place earlier (items_view (drop i values)) ≡ Err (record { section = place (length earlier + 1); why = why; names = None })
 part_refused of_table place values i d earlier why within e = rw (items_view-drop values i d within, e) refl
 

@@ -12,8 +12,8 @@ use Rattle.railway.specs.declared.block.End.TheVariants.{A, B}
 use Rattle.railway_plan.specs.declared.fault.PlanTextFault.{PlanTextFault}
 use Rattle.railway_plan.specs.declared.fault.Section.{Section}
 use Rattle.railway_plan.specs.declared.fault.Section.TheVariants.{Whole, Block, Joint, Turnout, Train}
-use Rattle.railway_plan.specs.declared.fault.Why.{Why}
-use Rattle.railway_plan.specs.declared.fault.Why.TheVariants.{NotToml, UnknownKey, BadKey, TooMany, NotTable, UnknownEnd, UnknownBlock, UnknownDecoder, RepeatedName, RepeatedSensor, RepeatedEnd, NoDecoder, RepeatedDecoder, OffTrack, LongTrain, FastTrain, NoMemory}
+use Rattle.railway_plan.specs.declared.fault.Reason.{Reason}
+use Rattle.railway_plan.specs.declared.fault.Reason.TheVariants.{NotToml, UnknownKey, BadKey, TooMany, NotTable, UnknownEnd, UnknownBlock, UnknownDecoder, RepeatedName, RepeatedSensor, RepeatedEnd, NoDecoder, RepeatedDecoder, OffTrack, LongTrain, FastTrain, NoMemory}
 use Rattle.railway_plan.specs.declared.key.Key.{Key}
 use Rattle.railway_plan.specs.declared.key.Key.TheVariants as key
 use Rattle.railway_plan.specs.Format.{Text, block_keys, spelled, top_keys, train_keys, turnout_keys, value_at}
@@ -84,7 +84,7 @@ end_text key.Ends index part =
 end_text k index part = option_and_then as_str (value_at k part)
 
 -- the word of the text that is wrong
-abbrev pub word_at : Why → Section → Members → Option Text
+abbrev pub word_at : Reason → Section → Members → Option Text
 word_at UnknownKey place whole =
     option_and_then (unknown_key (map spelled (keys_of place))) (part_at place whole)
 word_at (UnknownEnd k index) place whole =
@@ -185,7 +185,7 @@ naming_block None end whole = None
 naming_block (Some block) end whole = last_naming (end_name block end) whole
 
 -- the last part with the same name, sensor, decoder or end
-abbrev pub other_at : Why → Section → Members → Option Section
+abbrev pub other_at : Reason → Section → Members → Option Section
 other_at RepeatedName place whole =
     option_map Block (last_with (value_in key.Name (part_at place whole)) key.Name key.Block whole)
 other_at RepeatedSensor place whole =

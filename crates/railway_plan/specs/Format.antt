@@ -19,8 +19,8 @@ use Rattle.railway_plan.specs.declared.bounds.Bounds.{Bounds}
 use Rattle.railway_plan.specs.declared.fault.PlanTextFault.{PlanTextFault}
 use Rattle.railway_plan.specs.declared.fault.Section.{Section}
 use Rattle.railway_plan.specs.declared.fault.Section.TheVariants as section
-use Rattle.railway_plan.specs.declared.fault.Why.{Why}
-use Rattle.railway_plan.specs.declared.fault.Why.TheVariants.{NotToml, UnknownKey, BadKey, NotTable, UnknownEnd, UnknownBlock, UnknownDecoder, TooMany, RepeatedName}
+use Rattle.railway_plan.specs.declared.fault.Reason.{Reason}
+use Rattle.railway_plan.specs.declared.fault.Reason.TheVariants.{NotToml, UnknownKey, BadKey, NotTable, UnknownEnd, UnknownBlock, UnknownDecoder, TooMany, RepeatedName}
 use Rattle.railway_plan.specs.declared.key.Key.{Key}
 use Rattle.railway_plan.specs.declared.key.Key.TheVariants as key
 use Rattle.railway_plan.specs.Entries.{BlockEntry, PlanEntries, name_of}
@@ -58,7 +58,7 @@ abbrev pub value_at : Key → Members → Option Data
 value_at k table = get_member (spelled k) table
 
 -- the text at a key, which has to be there
-abbrev pub text_at : Key → Members → Result Text Why
+abbrev pub text_at : Key → Members → Result Text Reason
 text_at k table = or_fault (option_and_then as_str (value_at k table)) (BadKey k)
 
 -- Numbers: millimetres, millimetres a second, and numbers of sensors and switches as throttles show
@@ -68,18 +68,18 @@ abbrev pub from_to : ℕ → ℕ → Bounds
 from_to least most = record { least = least; most = most }
 
 -- a number within bounds
-abbrev pub in_range : Key → Bounds → ℤ → Result ℕ Why
+abbrev pub in_range : Key → Bounds → ℤ → Result ℕ Reason
 in_range k bounds (pos n) =
     if nat_le bounds.least n && nat_le n bounds.most then Ok n else Err (BadKey k)
 in_range k bounds (negsuc n) = Err (BadKey k)
 
 -- the number at a key, which has to be there
-abbrev pub number_at : Key → Bounds → Members → Result ℕ Why
+abbrev pub number_at : Key → Bounds → Members → Result ℕ Reason
 number_at k bounds table =
     or_fault (option_and_then as_integer (value_at k table)) (BadKey k) >>= in_range k bounds
 
 -- the table has no other keys
-abbrev pub only : List Key → Members → Result Members Why
+abbrev pub only : List Key → Members → Result Members Reason
 only keys table = if knows_only (map spelled keys) table then Ok table else Err UnknownKey
 
 -- Points, for a drawing: two coordinates from -10,000 to 10,000.
@@ -104,11 +104,11 @@ abbrev pub point_of : Data → Option Point
 point_of value = option_and_then point_of_items (as_array value)
 
 -- the point at a key, which may be left out
-abbrev pub point_or_none : Key → Option Data → Result (Option Point) Why
+abbrev pub point_or_none : Key → Option Data → Result (Option Point) Reason
 point_or_none k None = Ok None
 point_or_none k (Some value) = or_fault (point_of value) (BadKey k) >>= (λ point. Ok (Some point))
 
-abbrev pub point_at : Key → Members → Result (Option Point) Why
+abbrev pub point_at : Key → Members → Result (Option Point) Reason
 point_at k table = point_or_none k (value_at k table)
 
 -- Blocks.
@@ -117,12 +117,12 @@ point_at k table = point_or_none k (value_at k table)
 abbrev pub is_block_name : Text → Bool
 is_block_name name = (nat_le 1 (length name) && nat_le (length name) 32) && list_all is_name_byte name
 
-abbrev pub name_in : Members → Result Text Why
+abbrev pub name_in : Members → Result Text Reason
 name_in table =
     text_at key.Name table >>= (λ name. if is_block_name name then Ok name else Err (BadKey key.Name))
 
 -- a sensor may be left out
-abbrev pub sensor_or_none : Option Data → Result (Option ℕ) Why
+abbrev pub sensor_or_none : Option Data → Result (Option ℕ) Reason
 sensor_or_none None = Ok None
 sensor_or_none (Some value) = do
   number ← or_fault (as_integer value) (BadKey key.Sensor)
@@ -132,7 +132,7 @@ sensor_or_none (Some value) = do
 abbrev pub block_keys : List Key
 block_keys = key.Name ∷ key.Length ∷ key.Sensor ∷ key.A ∷ key.B ∷ []
 
-abbrev pub block_in : Members → Result BlockEntry Why
+abbrev pub block_in : Members → Result BlockEntry Reason
 block_in given = do
   table ← only block_keys given
   name ← name_in table
@@ -160,18 +160,18 @@ end_from i [] text = None
 end_from i (name ∷ names) text = found_or i (end_from (i + 1) names text) (end_named name text)
 
 -- the end at a key, and at an index there
-abbrev pub end_of : Key → (index : ℕ) → List Text → Text → Result BlockEnd Why
+abbrev pub end_of : Key → (index : ℕ) → List Text → Text → Result BlockEnd Reason
 end_of k index blocks text = or_fault (end_from 0 blocks text) (UnknownEnd k index)
 
-abbrev pub end_at : List Text → Key → Members → Result BlockEnd Why
+abbrev pub end_at : List Text → Key → Members → Result BlockEnd Reason
 end_at blocks k table = text_at k table >>= end_of k 0 blocks
 
 -- Joints: two ends.
 
-abbrev pub text_of_item : Data → Result Text Why
+abbrev pub text_of_item : Data → Result Text Reason
 text_of_item value = or_fault (as_str value) (BadKey key.Ends)
 
-abbrev pub joint_of : List Text → Items → Result Joint Why
+abbrev pub joint_of : List Text → Items → Result Joint Reason
 joint_of blocks no_items = Err (BadKey key.Ends)
 joint_of blocks (item one no_items) = Err (BadKey key.Ends)
 joint_of blocks (item first (item second no_items)) = do
@@ -182,7 +182,7 @@ joint_of blocks (item first (item second no_items)) = do
   Ok (record { one = one; two = two })
 joint_of blocks (item one (item two (item more items))) = Err (BadKey key.Ends)
 
-abbrev pub joint_in : List Text → Members → Result Joint Why
+abbrev pub joint_in : List Text → Members → Result Joint Reason
 joint_in blocks given = do
   table ← only (key.Ends ∷ []) given
   ends ← or_fault (option_and_then as_array (value_at key.Ends table)) (BadKey key.Ends)
@@ -192,13 +192,13 @@ joint_in blocks given = do
 -- side to the other, in milliseconds.
 
 -- the time may be left out: then the turnout moves at once
-abbrev pub time_or_none : Option Data → Result ℕ Why
+abbrev pub time_or_none : Option Data → Result ℕ Reason
 time_or_none None = Ok 0
 time_or_none (Some value) =
     or_fault (as_integer value) (BadKey key.Time) >>= in_range key.Time (from_to 0 10000)
 
 -- a turnout has no feedback if it is left out
-abbrev pub feedback_or_none : Option Data → Result Bool Why
+abbrev pub feedback_or_none : Option Data → Result Bool Reason
 feedback_or_none None = Ok false
 feedback_or_none (Some value) = or_fault (as_bool value) (BadKey key.Feedback)
 
@@ -206,7 +206,7 @@ abbrev pub turnout_keys : List Key
 turnout_keys =
     key.Switch ∷ key.Common ∷ key.Closed ∷ key.Thrown ∷ key.Time ∷ key.Feedback ∷ []
 
-abbrev pub turnout_in : List Text → Members → Result Turnout Why
+abbrev pub turnout_in : List Text → Members → Result Turnout Reason
 turnout_in blocks given = do
   table ← only turnout_keys given
   switch ← number_at key.Switch (from_to 1 2040) table
@@ -236,20 +236,20 @@ abbrev pub facing_of : Text → Option End
 facing_of text =
     if bytes_eq text (codes "a") then Some A else (if bytes_eq text (codes "b") then Some B else None)
 
-abbrev pub decoder_at : (decoders : List Text) → Members → Result ℕ Why
+abbrev pub decoder_at : (decoders : List Text) → Members → Result ℕ Reason
 decoder_at decoders table =
     text_at key.Decoder table >>= (λ name. or_fault (index_from 0 decoders name) UnknownDecoder)
 
-abbrev pub block_at : (blocks : List Text) → Members → Result ℕ Why
+abbrev pub block_at : (blocks : List Text) → Members → Result ℕ Reason
 block_at blocks table =
     text_at key.Block table >>= (λ name. or_fault (index_from 0 blocks name) UnknownBlock)
 
-abbrev pub facing_at : Members → Result End Why
+abbrev pub facing_at : Members → Result End Reason
 facing_at table =
     text_at key.Facing table >>= (λ end. or_fault (facing_of end) (BadKey key.Facing))
 
 -- a rate may be left out
-abbrev pub rate_or_none : Key → Option Data → Result (Option ℕ) Why
+abbrev pub rate_or_none : Key → Option Data → Result (Option ℕ) Reason
 rate_or_none k None = Ok None
 rate_or_none k (Some value) = do
   number ← or_fault (as_integer value) (BadKey k)
@@ -257,14 +257,14 @@ rate_or_none k (Some value) = do
   Ok (Some rate)
 
 -- both rates, or none
-abbrev pub momentum_of : (acceleration braking : Option ℕ) → Result (Option Momentum) Why
+abbrev pub momentum_of : (acceleration braking : Option ℕ) → Result (Option Momentum) Reason
 momentum_of None None = Ok None
 momentum_of (Some acceleration) (Some braking) =
     Ok (Some (record { acceleration = acceleration; braking = braking }))
 momentum_of None (Some braking) = Err (BadKey key.Acceleration)
 momentum_of (Some acceleration) None = Err (BadKey key.Braking)
 
-abbrev pub momentum_at : Members → Result (Option Momentum) Why
+abbrev pub momentum_at : Members → Result (Option Momentum) Reason
 momentum_at table = do
   acceleration ← rate_or_none key.Acceleration (value_at key.Acceleration table)
   braking ← rate_or_none key.Braking (value_at key.Braking table)
@@ -275,7 +275,7 @@ train_keys =
     key.Decoder ∷ key.Block ∷ key.Front ∷ key.Facing ∷ key.Length ∷ key.Speed
     ∷ key.Acceleration ∷ key.Braking ∷ []
 
-abbrev pub train_in : (decoders blocks : List Text) → Members → Result Train Why
+abbrev pub train_in : (decoders blocks : List Text) → Members → Result Train Reason
 train_in decoders blocks given = do
   table ← only train_keys given
   decoder ← decoder_at decoders table
@@ -295,18 +295,18 @@ train_in decoders blocks given = do
 
 -- Arrays of tables. Their members count from 1 in faults.
 
-abbrev pub in_section : {A : Type 0} → Section → Result A Why → Result A PlanTextFault
+abbrev pub in_section : {A : Type 0} → Section → Result A Reason → Result A PlanTextFault
 in_section place (Ok x) = Ok x
 in_section place (Err why) = Err (record { section = place; why = why; names = None })
 
-abbrev pub table_of : Data → Result Members Why
+abbrev pub table_of : Data → Result Members Reason
 table_of value = or_fault (as_table value) NotTable
 
-abbrev pub part_of : {A : Type 0} → (Members → Result A Why) → Data → Result A Why
+abbrev pub part_of : {A : Type 0} → (Members → Result A Reason) → Data → Result A Reason
 part_of of_table value = table_of value >>= of_table
 
 -- the parts of these members, after those before them
-abbrev pub parts_after : {A : Type 0} → (Members → Result A Why) → (ℕ → Section) → List A → Items → Result (List A) PlanTextFault
+abbrev pub parts_after : {A : Type 0} → (Members → Result A Reason) → (ℕ → Section) → List A → Items → Result (List A) PlanTextFault
 parts_after of_table place earlier no_items = Ok earlier
 parts_after of_table place earlier (item value items) =
     in_section (place (length earlier + 1)) (part_of of_table value)
@@ -315,21 +315,21 @@ parts_after of_table place earlier (item value items) =
 -- The top level: `version`, which is 1, and four arrays, which may be left out. Their members are
 -- counted before they are looked at.
 
-abbrev pub array_or_none : Key → Option Data → Result Items Why
+abbrev pub array_or_none : Key → Option Data → Result Items Reason
 array_or_none k None = Ok no_items
 array_or_none k (Some value) = or_fault (as_array value) (BadKey k)
 
-abbrev pub counted : (most : ℕ) → Key → Items → Result Items Why
+abbrev pub counted : (most : ℕ) → Key → Items → Result Items Reason
 counted most k items = if nat_lt most (items_len items) then Err (TooMany k) else Ok items
 
-abbrev pub items_at : (most : ℕ) → Key → Members → Result Items Why
+abbrev pub items_at : (most : ℕ) → Key → Members → Result Items Reason
 items_at most k table = array_or_none k (value_at k table) >>= counted most k
 
 abbrev pub top_keys : List Key
 top_keys = key.Version ∷ key.Block ∷ key.Joint ∷ key.Turnout ∷ key.Train ∷ []
 
 -- the version of a table with these keys, 1
-abbrev pub version_in : Members → Result ℕ Why
+abbrev pub version_in : Members → Result ℕ Reason
 version_in given = only top_keys given >>= number_at key.Version (from_to 1 1)
 
 -- What the arrays say, each by its members, a table, and a text; `decoders` are the names of the

@@ -14,8 +14,8 @@ use Rattle.railway_plan.specs.declared.fault.PlanTextFault.{PlanTextFault}
 use Rattle.railway_plan.specs.declared.fault.Section.{Section}
 use Rattle.railway_plan.specs.declared.fault.Section.TheVariants.{Block, Joint, Turnout, Train}
 use Rattle.railway_plan.specs.declared.fault.TrainNames.{TrainNames}
-use Rattle.railway_plan.specs.declared.fault.Why.{Why}
-use Rattle.railway_plan.specs.declared.fault.Why.TheVariants.{BadKey, UnknownBlock, RepeatedName, RepeatedSensor, RepeatedEnd, NoDecoder, RepeatedDecoder, LongTrain, FastTrain, OffTrack}
+use Rattle.railway_plan.specs.declared.fault.Reason.{Reason}
+use Rattle.railway_plan.specs.declared.fault.Reason.TheVariants.{BadKey, UnknownBlock, RepeatedName, RepeatedSensor, RepeatedEnd, NoDecoder, RepeatedDecoder, LongTrain, FastTrain, OffTrack}
 use Rattle.railway_plan.specs.declared.key.Key.TheVariants.{Acceleration, Length, Sensor}
 use Rattle.railway_plan.specs.Entries.{plan_entries}
 use Rattle.railway_plan.specs.Format.{Text, plan_in}
@@ -45,7 +45,7 @@ section_at (bad.OffTrack i) = Train (number_of i)
 section_at (bad.LongTrain train decoder block) = Train (number_of train)
 section_at (bad.FastTrain train decoder block) = Train (number_of train)
 
-abbrev pub why_of : PlanFault → Why
+abbrev pub why_of : PlanFault → Reason
 why_of (bad.BlockLength i) = BadKey Length
 why_of (bad.NameTwice i) = RepeatedName
 why_of (bad.Sensor i) = BadKey Sensor

@@ -4,7 +4,7 @@ ghost use Rattle.std.specs.List.{list_all};
 ghost use Rattle.railway_plan.specs.Details.{is_printable, is_shown, shown};
 
 use crate::bounds::{Bounds, TRAIN_LENGTH};
-use crate::fault::{PlanTextFault, Section, Why};
+use crate::fault::{PlanTextFault, Reason, Section};
 use crate::key::Key;
 use arrayvec::ArrayString;
 use std::fmt;
@@ -85,40 +85,40 @@ pub(crate) fn shown(text: Option<&str>) -> Option<Word>
 
 /// Writes what is wrong with a part that has the same as another.
 fn write_repeated<W: fmt::Write>(
-    why: Why,
+    why: Reason,
     other: Option<Section>,
     f: &mut fmt::Formatter<W>,
 ) -> fmt::Result {
     match (why, other) {
-        (Why::RepeatedName, Some(other)) => write!(f, "{other} has this name too"),
-        (Why::RepeatedSensor, Some(other)) => write!(f, "{other} has this sensor too"),
-        (Why::RepeatedDecoder, Some(other)) => write!(f, "{other} has this decoder too"),
-        (Why::RepeatedEnd(_), Some(other)) => write!(f, "{why}, last by {other}"),
+        (Reason::RepeatedName, Some(other)) => write!(f, "{other} has this name too"),
+        (Reason::RepeatedSensor, Some(other)) => write!(f, "{other} has this sensor too"),
+        (Reason::RepeatedDecoder, Some(other)) => write!(f, "{other} has this decoder too"),
+        (Reason::RepeatedEnd(_), Some(other)) => write!(f, "{why}, last by {other}"),
         _ => write!(f, "{why}"),
     }
 }
 
 /// Writes what is wrong with a word of a part.
-fn write_word<W: fmt::Write>(why: Why, word: &Word, f: &mut fmt::Formatter<W>) -> fmt::Result {
+fn write_word<W: fmt::Write>(why: Reason, word: &Word, f: &mut fmt::Formatter<W>) -> fmt::Result {
     match why {
-        Why::UnknownKey => write!(f, "unknown key {word}"),
-        Why::UnknownEnd { key, .. } => write!(f, "{key}: no block has the end {word}"),
-        Why::UnknownBlock => write!(f, "no block has the name {word}"),
+        Reason::UnknownKey => write!(f, "unknown key {word}"),
+        Reason::UnknownEnd { key, .. } => write!(f, "{key}: no block has the end {word}"),
+        Reason::UnknownBlock => write!(f, "no block has the name {word}"),
         _ => write!(f, "{why} ({word})"),
     }
 }
 
 /// Writes what is wrong with a train.
-fn write_train<W: fmt::Write>(why: Why, f: &mut fmt::Formatter<W>) -> fmt::Result {
+fn write_train<W: fmt::Write>(why: Reason, f: &mut fmt::Formatter<W>) -> fmt::Result {
     match why {
         // `block` is a key of the plan, and one of a train.
-        Why::BadKey(Key::Block) => f.write_str("block must be the name of a block"),
+        Reason::BadKey(Key::Block) => f.write_str("block must be the name of a block"),
         // So is `length`.
-        Why::BadKey(Key::Length) => {
+        Reason::BadKey(Key::Length) => {
             let Bounds { least, most } = TRAIN_LENGTH;
             write!(f, "length must be {least} to {most}")
         }
-        Why::NoDecoder => f.write_str("its decoder is not of a locomotive"),
+        Reason::NoDecoder => f.write_str("its decoder is not of a locomotive"),
         _ => write!(f, "{why}"),
     }
 }

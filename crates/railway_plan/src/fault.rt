@@ -15,7 +15,7 @@ pub type TrainName = ArrayString<16>;
 
 /// Why the text of a plan is refused.
 #[derive(Clone, Copy)]
-pub enum Why {
+pub enum Reason {
     /// The text is not TOML, or not UTF-8.
     NotToml,
     /// The table has a key that such a table does not have.
@@ -66,7 +66,7 @@ pub enum Section {
 #[derive(Clone, Copy)]
 pub struct PlanTextFault {
     pub section: Section,
-    pub why: Why,
+    pub why: Reason,
     /// If a train is too long or too fast, the names of the train and of a block.
     pub names: Option<TrainNames>,
 }
@@ -103,29 +103,32 @@ fn section_of(part: Part) -> Section
 }
 
 /// Returns where a plan has a fault, and the reason.
-fn place_of(fault: PlanFault) -> (Section, Why)
+fn place_of(fault: PlanFault) -> (Section, Reason)
     ensures section { result.0 ≡ section_at fault }
     ensures why { result.1 ≡ why_of fault }
 {
     match fault {
-        PlanFault::BlockLength(i) => (Section::Block(number_of(i)), Why::BadKey(Key::Length)),
-        PlanFault::NameTwice(i) => (Section::Block(number_of(i)), Why::RepeatedName),
-        PlanFault::Sensor(i) => (Section::Block(number_of(i)), Why::BadKey(Key::Sensor)),
-        PlanFault::SensorTwice(i) => (Section::Block(number_of(i)), Why::RepeatedSensor),
-        PlanFault::UnknownBlock(part) => (section_of(part), Why::UnknownBlock),
+        PlanFault::BlockLength(i) => (Section::Block(number_of(i)), Reason::BadKey(Key::Length)),
+        PlanFault::NameTwice(i) => (Section::Block(number_of(i)), Reason::RepeatedName),
+        PlanFault::Sensor(i) => (Section::Block(number_of(i)), Reason::BadKey(Key::Sensor)),
+        PlanFault::SensorTwice(i) => (Section::Block(number_of(i)), Reason::RepeatedSensor),
+        PlanFault::UnknownBlock(part) => (section_of(part), Reason::UnknownBlock),
         PlanFault::EndTwice(end) => {
             (
                 Section::Block(number_of(usize::from(end.block))),
-                Why::RepeatedEnd(end.end),
+                Reason::RepeatedEnd(end.end),
             )
         }
-        PlanFault::UnknownDecoder(part) => (section_of(part), Why::NoDecoder),
-        PlanFault::DecoderTwice(i) => (Section::Train(number_of(i)), Why::RepeatedDecoder),
-        PlanFault::TrainLength(i) => (Section::Train(number_of(i)), Why::BadKey(Key::Length)),
-        PlanFault::Momentum(i) => (Section::Train(number_of(i)), Why::BadKey(Key::Acceleration)),
-        PlanFault::OffTrack(i) => (Section::Train(number_of(i)), Why::OffTrack),
-        PlanFault::LongTrain { train, .. } => (Section::Train(number_of(train)), Why::LongTrain),
-        PlanFault::FastTrain { train, .. } => (Section::Train(number_of(train)), Why::FastTrain),
+        PlanFault::UnknownDecoder(part) => (section_of(part), Reason::NoDecoder),
+        PlanFault::DecoderTwice(i) => (Section::Train(number_of(i)), Reason::RepeatedDecoder),
+        PlanFault::TrainLength(i) => (Section::Train(number_of(i)), Reason::BadKey(Key::Length)),
+        PlanFault::Momentum(i) => (
+            Section::Train(number_of(i)),
+            Reason::BadKey(Key::Acceleration),
+        ),
+        PlanFault::OffTrack(i) => (Section::Train(number_of(i)), Reason::OffTrack),
+        PlanFault::LongTrain { train, .. } => (Section::Train(number_of(train)), Reason::LongTrain),
+        PlanFault::FastTrain { train, .. } => (Section::Train(number_of(train)), Reason::FastTrain),
     }
 }
 
@@ -191,33 +194,33 @@ fn write_demand<W: fmt::Write>(key: Key, f: &mut fmt::Formatter<W>) -> fmt::Resu
 }
 
 /// Returns the words of a reason that names no key.
-fn words_of(why: Why) -> &'static str {
+fn words_of(why: Reason) -> &'static str {
     match why {
-        Why::NotToml => "it is not TOML",
-        Why::UnknownKey => "a key is unknown",
-        Why::NotTable => "it is not a table",
-        Why::UnknownBlock => "no block has this name",
-        Why::UnknownDecoder => "the roster has no decoder of this name",
-        Why::RepeatedName => "another block has this name",
-        Why::RepeatedSensor => "another block has this sensor",
-        Why::RepeatedEnd(End::A) => "end a is named twice",
-        Why::RepeatedEnd(End::B) => "end b is named twice",
-        Why::NoDecoder => "no decoder of the roster has its switch",
-        Why::RepeatedDecoder => "another train has this decoder",
-        Why::OffTrack => "its front is not in its block",
-        Why::LongTrain => "longer than the track behind it",
-        Why::FastTrain => "too fast for the shortest block",
-        Why::NoMemory => "no memory",
-        Why::BadKey(_) | Why::TooMany(_) | Why::UnknownEnd { .. } => "",
+        Reason::NotToml => "it is not TOML",
+        Reason::UnknownKey => "a key is unknown",
+        Reason::NotTable => "it is not a table",
+        Reason::UnknownBlock => "no block has this name",
+        Reason::UnknownDecoder => "the roster has no decoder of this name",
+        Reason::RepeatedName => "another block has this name",
+        Reason::RepeatedSensor => "another block has this sensor",
+        Reason::RepeatedEnd(End::A) => "end a is named twice",
+        Reason::RepeatedEnd(End::B) => "end b is named twice",
+        Reason::NoDecoder => "no decoder of the roster has its switch",
+        Reason::RepeatedDecoder => "another train has this decoder",
+        Reason::OffTrack => "its front is not in its block",
+        Reason::LongTrain => "longer than the track behind it",
+        Reason::FastTrain => "too fast for the shortest block",
+        Reason::NoMemory => "no memory",
+        Reason::BadKey(_) | Reason::TooMany(_) | Reason::UnknownEnd { .. } => "",
     }
 }
 
-impl fmt::Display for Why {
+impl fmt::Display for Reason {
     fn fmt<W: fmt::Write>(&self, f: &mut fmt::Formatter<W>) -> fmt::Result {
         match *self {
-            Why::BadKey(key) => write_demand(key, f),
-            Why::TooMany(key) => write!(f, "there are too many {key}s"),
-            Why::UnknownEnd { key, .. } => write!(f, "{key}: no block has this end"),
+            Reason::BadKey(key) => write_demand(key, f),
+            Reason::TooMany(key) => write!(f, "there are too many {key}s"),
+            Reason::UnknownEnd { key, .. } => write!(f, "{key}: no block has this end"),
             why => f.write_str(words_of(why)),
         }
     }

@@ -1,6 +1,6 @@
 //! Reading the railway of a plan.
 ghost use Rattle.std.specs.Prelude.{◌≢◌, IfErr, IfOk};
-ghost use Rattle.railway_plan.specs.declared.fault.Why.TheVariants.{NoMemory};
+ghost use Rattle.railway_plan.specs.declared.fault.Reason.TheVariants.{NoMemory};
 ghost use Rattle.railway_plan.specs.Railways.{IsFaultIn, IsRailwayIn};
 
 use crate::fault::{PlanTextFault, text_fault};

@@ -21,7 +21,7 @@ mod repeating;
 mod table;
 
 pub use details::{LocatedFault, PlanDetails};
-pub use fault::{PlanTextFault, Section, TrainName, TrainNames, Why};
+pub use fault::{PlanTextFault, Reason, Section, TrainName, TrainNames};
 pub use key::Key;
 pub use laying::read_railway;
 pub use locating::locate;

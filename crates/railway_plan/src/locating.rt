@@ -10,7 +10,7 @@ ghost use Rattle.railway_plan.specs.Format.{spelled};
 ghost use Rattle.railway_plan.specs.Located.{IsLocated};
 
 use crate::details::{LocatedFault, PlanDetails, shown};
-use crate::fault::{PlanTextFault, Section, Why};
+use crate::fault::{PlanTextFault, Reason, Section};
 use crate::key::{BLOCK_KEYS, JOINT_KEYS, Key, PLAN_KEYS, TRAIN_KEYS, TURNOUT_KEYS};
 use crate::repeating::other_at;
 use crate::table::value_at;
@@ -28,7 +28,7 @@ pub fn locate(alloc: Global, text: &[u8], fault: PlanTextFault) -> Result<Locate
 {
     let details = match read_toml(alloc, text) {
         Ok(table) => details_of(&table, &fault),
-        Err(roster::Why::NoMemory) => return Err(AllocError),
+        Err(roster::RosterFaultKind::NoMemory) => return Err(AllocError),
         Err(_) => line_details(alloc, text)?,
     };
     Ok(LocatedFault { fault, details })
@@ -159,13 +159,13 @@ fn end_text(part: &Table, key: Key, index: usize) -> Option<&str>
 }
 
 /// The word of the text that is wrong.
-fn word_at(whole: &Table, why: Why, section: Section) -> Option<&str>
+fn word_at(whole: &Table, why: Reason, section: Section) -> Option<&str>
     ensures { option_map (λ text. text.now) result ≡ word_at why section (table_view whole.now) }
 {
     match why {
-        Why::UnknownKey => unknown_key(part_at(whole, section)?, keys_of(section)),
-        Why::UnknownEnd { key, index } => end_text(part_at(whole, section)?, key, index),
-        Why::UnknownBlock | Why::OffTrack => text_in(whole, section, Key::Block),
+        Reason::UnknownKey => unknown_key(part_at(whole, section)?, keys_of(section)),
+        Reason::UnknownEnd { key, index } => end_text(part_at(whole, section)?, key, index),
+        Reason::UnknownBlock | Reason::OffTrack => text_in(whole, section, Key::Block),
         _ => None,
     }
 }

@@ -5,11 +5,11 @@ ghost use Rattle.toml.specs.View.{items_view, view};
 ghost use Rattle.roster.specs.Entry.{name_of};
 ghost use Rattle.railway_plan.specs.declared.fault.Section.{Section as SectionOf};
 ghost use Rattle.railway_plan.specs.declared.fault.Section.TheVariants as section;
-ghost use Rattle.railway_plan.specs.declared.fault.Why.{Why as WhyOf};
+ghost use Rattle.railway_plan.specs.declared.fault.Reason.{Reason as WhyOf};
 ghost use Rattle.railway_plan.specs.Format.{joint_in, part_of, parts_after, train_in, turnout_in};
 ghost use Rattle.railway_plan.specs.Entries.{names_of};
 
-use crate::fault::{PlanTextFault, Section, Why};
+use crate::fault::{PlanTextFault, Reason, Section};
 use crate::parts::{joint, train, turnout};
 use arrayvec::ArrayVec;
 use railway::{Block, Joint, Train, Turnout};
@@ -25,7 +25,7 @@ pub(crate) trait Member: Default + Drop {
     ghost place: { ℕ → SectionOf };
 
     /// Returns the member that a value says.
-    fn read(roster: &Roster, blocks: &[Block], value: &Value) -> Result<Self, Why>
+    fn read(roster: &Roster, blocks: &[Block], value: &Value) -> Result<Self, Reason>
         requires { length blocks.now ≤ 64 }
         ensures { result
             ≡ part_of (said (map name_of roster.now) (names_of blocks.now)) (view value.now) };
@@ -40,7 +40,7 @@ impl Member for Joint {
 
     ghost place = { section.Joint };
 
-    fn read(_roster: &Roster, blocks: &[Block], value: &Value) -> Result<Joint, Why> {
+    fn read(_roster: &Roster, blocks: &[Block], value: &Value) -> Result<Joint, Reason> {
         joint(blocks, value)
     }
 
@@ -54,7 +54,7 @@ impl Member for Turnout {
 
     ghost place = { section.Turnout };
 
-    fn read(_roster: &Roster, blocks: &[Block], value: &Value) -> Result<Turnout, Why> {
+    fn read(_roster: &Roster, blocks: &[Block], value: &Value) -> Result<Turnout, Reason> {
         turnout(blocks, value)
     }
 
@@ -68,7 +68,7 @@ impl Member for Train {
 
     ghost place = { section.Train };
 
-    fn read(roster: &Roster, blocks: &[Block], value: &Value) -> Result<Train, Why> {
+    fn read(roster: &Roster, blocks: &[Block], value: &Value) -> Result<Train, Reason> {
         train(roster, blocks, value)
     }
 

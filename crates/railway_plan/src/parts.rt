@@ -3,12 +3,12 @@ ghost use Rattle.std.specs.Prelude.{◌≡◌, ◌≤◌, true, false, Ok, Err, 
 ghost use Rattle.toml.specs.View.{items_view, table_view, view};
 ghost use Rattle.roster.specs.Entry.{name_of};
 ghost use Rattle.roster.specs.Toml.{knows_only};
-ghost use Rattle.railway_plan.specs.declared.fault.Why.TheVariants.{UnknownKey};
+ghost use Rattle.railway_plan.specs.declared.fault.Reason.TheVariants.{UnknownKey};
 ghost use Rattle.railway_plan.specs.Format.{block_at, block_in, decoder_at, end_at, end_of, facing_at, is_block_name, joint_in, joint_of, momentum_at, momentum_of, name_in, part_of, table_of, train_in, turnout_in};
 ghost use Rattle.railway_plan.specs.Entries.{block_entry, names_of};
 
 use crate::bounds::{FRONT, LENGTH, SPEED, SWITCH, TRAIN_LENGTH};
-use crate::fault::Why;
+use crate::fault::Reason;
 use crate::key::{BLOCK_KEYS, JOINT_KEYS, Key, TRAIN_KEYS, TURNOUT_KEYS};
 use crate::names::{block_end, block_index, decoder_index};
 use crate::table::{feedback, number_at, point, rate, sensor, text_at, time, value_at};
@@ -20,7 +20,7 @@ use text::are_name_bytes;
 use toml::{Table, Value};
 
 /// Returns the block that a table says.
-pub(crate) fn block(value: &Value) -> Result<Block, Why>
+pub(crate) fn block(value: &Value) -> Result<Block, Reason>
     ensures { MatchResult result
         (λ block. part_of block_in (view value.now) ≡ Ok (block_entry block))
         (λ why. part_of block_in (view value.now) ≡ Err why) }
@@ -37,18 +37,18 @@ pub(crate) fn block(value: &Value) -> Result<Block, Why>
 }
 
 /// Returns the table that a member of an array is.
-fn table_of(value: &Value) -> Result<&Table, Why>
+fn table_of(value: &Value) -> Result<&Table, Reason>
     ensures { MatchResult result (λ table. table_of (view value.now) ≡ Ok (table_view table.now))
         (λ why. table_of (view value.now) ≡ Err why) }
 {
     match value.as_table() {
         Some(table) => Ok(table),
-        None => Err(Why::NotTable),
+        None => Err(Reason::NotTable),
     }
 }
 
 /// Returns `UnknownKey` if a table has another key than these.
-fn check_keys(table: &Table, keys: &[&str]) -> Result<(), Why>
+fn check_keys(table: &Table, keys: &[&str]) -> Result<(), Reason>
     ensures { MatchResult result
         (λ _. knows_only (map (λ key. key.now) keys.now) (table_view table.now) ≡ true)
         (λ why. (knows_only (map (λ key. key.now) keys.now) (table_view table.now) ≡ false)
@@ -57,22 +57,22 @@ fn check_keys(table: &Table, keys: &[&str]) -> Result<(), Why>
     if knows_only(table, keys) {
         Ok(())
     } else {
-        Err(Why::UnknownKey)
+        Err(Reason::UnknownKey)
     }
 }
 
 /// Returns the name of a block.
-fn name(table: &Table) -> Result<Name, Why>
+fn name(table: &Table) -> Result<Name, Reason>
     ensures { MatchResult result (λ name. name_in (table_view table.now) ≡ Ok name.bytes)
         (λ why. name_in (table_view table.now) ≡ Err why) }
 {
     let text = text_at(table, Key::Name)?;
     if !is_block_name(text) {
-        return Err(Why::BadKey(Key::Name));
+        return Err(Reason::BadKey(Key::Name));
     }
     match Name::from(text) {
         Ok(name) => Ok(name),
-        Err(_) => Err(Why::BadKey(Key::Name)),
+        Err(_) => Err(Reason::BadKey(Key::Name)),
     }
 }
 
@@ -83,7 +83,7 @@ fn is_block_name(name: &str) -> bool
 }
 
 /// Returns the joint that a table says, between ends of these blocks.
-pub(crate) fn joint(blocks: &[Block], value: &Value) -> Result<Joint, Why>
+pub(crate) fn joint(blocks: &[Block], value: &Value) -> Result<Joint, Reason>
     requires { length blocks.now ≤ 64 }
     ensures { result ≡ part_of (joint_in (names_of blocks.now)) (view value.now) }
 {
@@ -92,13 +92,13 @@ pub(crate) fn joint(blocks: &[Block], value: &Value) -> Result<Joint, Why>
     match value_at(table, Key::Ends) {
         Some(value) => match value.as_array() {
             Some(ends) => joint_of(blocks, ends.as_slice()),
-            None => Err(Why::BadKey(Key::Ends)),
+            None => Err(Reason::BadKey(Key::Ends)),
         },
-        None => Err(Why::BadKey(Key::Ends)),
+        None => Err(Reason::BadKey(Key::Ends)),
     }
 }
 
-fn joint_of(blocks: &[Block], ends: &[Value]) -> Result<Joint, Why>
+fn joint_of(blocks: &[Block], ends: &[Value]) -> Result<Joint, Reason>
     requires { length blocks.now ≤ 64 }
     ensures { result ≡ joint_of (names_of blocks.now) (items_view ends.now) }
 {
@@ -108,25 +108,25 @@ fn joint_of(blocks: &[Block], ends: &[Value]) -> Result<Joint, Why>
                 one: end_of(Key::Ends, 0, blocks, one)?,
                 two: end_of(Key::Ends, 1, blocks, two)?,
             }),
-            _ => Err(Why::BadKey(Key::Ends)),
+            _ => Err(Reason::BadKey(Key::Ends)),
         },
-        _ => Err(Why::BadKey(Key::Ends)),
+        _ => Err(Reason::BadKey(Key::Ends)),
     }
 }
 
 /// Returns the end at a key and an index there, which is spelled so.
-fn end_of(key: Key, index: usize, blocks: &[Block], text: &str) -> Result<BlockEnd, Why>
+fn end_of(key: Key, index: usize, blocks: &[Block], text: &str) -> Result<BlockEnd, Reason>
     requires { length blocks.now ≤ 64 }
     ensures { result ≡ end_of key index (names_of blocks.now) text.now }
 {
     match block_end(blocks, text) {
         Some(end) => Ok(end),
-        None => Err(Why::UnknownEnd { key, index }),
+        None => Err(Reason::UnknownEnd { key, index }),
     }
 }
 
 /// Returns the end at a key.
-fn end_at(blocks: &[Block], table: &Table, key: Key) -> Result<BlockEnd, Why>
+fn end_at(blocks: &[Block], table: &Table, key: Key) -> Result<BlockEnd, Reason>
     requires { length blocks.now ≤ 64 }
     ensures { result ≡ end_at (names_of blocks.now) key (table_view table.now) }
 {
@@ -134,7 +134,7 @@ fn end_at(blocks: &[Block], table: &Table, key: Key) -> Result<BlockEnd, Why>
 }
 
 /// Returns the turnout that a table says, between ends of these blocks.
-pub(crate) fn turnout(blocks: &[Block], value: &Value) -> Result<Turnout, Why>
+pub(crate) fn turnout(blocks: &[Block], value: &Value) -> Result<Turnout, Reason>
     requires { length blocks.now ≤ 64 }
     ensures { result ≡ part_of (turnout_in (names_of blocks.now)) (view value.now) }
 {
@@ -151,7 +151,7 @@ pub(crate) fn turnout(blocks: &[Block], value: &Value) -> Result<Turnout, Why>
 }
 
 /// Returns the train that a table says, its front in one of these blocks.
-pub(crate) fn train(roster: &Roster, blocks: &[Block], value: &Value) -> Result<Train, Why>
+pub(crate) fn train(roster: &Roster, blocks: &[Block], value: &Value) -> Result<Train, Reason>
     requires { length blocks.now ≤ 64 }
     ensures { result
         ≡ part_of (train_in (map name_of roster.now) (names_of blocks.now)) (view value.now) }
@@ -174,7 +174,7 @@ pub(crate) fn train(roster: &Roster, blocks: &[Block], value: &Value) -> Result<
 }
 
 /// Returns how fast a train gathers speed and brakes, if the table says it.
-fn momentum_at(table: &Table) -> Result<Option<Momentum>, Why>
+fn momentum_at(table: &Table) -> Result<Option<Momentum>, Reason>
     ensures { result ≡ momentum_at (table_view table.now) }
 {
     let acceleration = rate(Key::Acceleration, value_at(table, Key::Acceleration))?;
@@ -183,7 +183,7 @@ fn momentum_at(table: &Table) -> Result<Option<Momentum>, Why>
 }
 
 /// Returns the momentum of two rates, both or none.
-fn momentum_of(acceleration: Option<u16>, braking: Option<u16>) -> Result<Option<Momentum>, Why>
+fn momentum_of(acceleration: Option<u16>, braking: Option<u16>) -> Result<Option<Momentum>, Reason>
     ensures { result ≡ momentum_of acceleration braking }
 {
     match (acceleration, braking) {
@@ -192,36 +192,36 @@ fn momentum_of(acceleration: Option<u16>, braking: Option<u16>) -> Result<Option
             acceleration,
             braking,
         })),
-        (None, Some(_)) => Err(Why::BadKey(Key::Acceleration)),
-        (Some(_), None) => Err(Why::BadKey(Key::Braking)),
+        (None, Some(_)) => Err(Reason::BadKey(Key::Acceleration)),
+        (Some(_), None) => Err(Reason::BadKey(Key::Braking)),
     }
 }
 
-fn decoder_at(roster: &Roster, table: &Table) -> Result<u8, Why>
+fn decoder_at(roster: &Roster, table: &Table) -> Result<u8, Reason>
     ensures { result ≡ decoder_at (map name_of roster.now) (table_view table.now) }
 {
     match decoder_index(roster, text_at(table, Key::Decoder)?) {
         Some(index) => Ok(index),
-        None => Err(Why::UnknownDecoder),
+        None => Err(Reason::UnknownDecoder),
     }
 }
 
-fn block_at(blocks: &[Block], table: &Table) -> Result<u8, Why>
+fn block_at(blocks: &[Block], table: &Table) -> Result<u8, Reason>
     requires { length blocks.now ≤ 64 }
     ensures { result ≡ block_at (names_of blocks.now) (table_view table.now) }
 {
     match block_index(blocks, text_at(table, Key::Block)?) {
         Some(index) => Ok(index),
-        None => Err(Why::UnknownBlock),
+        None => Err(Reason::UnknownBlock),
     }
 }
 
-fn facing_at(table: &Table) -> Result<End, Why>
+fn facing_at(table: &Table) -> Result<End, Reason>
     ensures { result ≡ facing_at (table_view table.now) }
 {
     match text_at(table, Key::Facing)? {
         "a" => Ok(End::A),
         "b" => Ok(End::B),
-        _ => Err(Why::BadKey(Key::Facing)),
+        _ => Err(Reason::BadKey(Key::Facing)),
     }
 }

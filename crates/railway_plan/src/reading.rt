@@ -4,12 +4,12 @@ ghost use Rattle.toml.specs.View.{items_view, table_view};
 ghost use Rattle.roster.specs.Entry.{name_of};
 ghost use Rattle.roster.specs.Toml.{table_in};
 ghost use Rattle.railway_plan.specs.declared.fault.Section.TheVariants.{Whole as WholeSection};
-ghost use Rattle.railway_plan.specs.declared.fault.Why.TheVariants.{NoMemory, NotToml};
+ghost use Rattle.railway_plan.specs.declared.fault.Reason.TheVariants.{NoMemory, NotToml};
 ghost use Rattle.railway_plan.specs.Format.{blocks_in, in_section, items_at, named_apart, plan_in, plan_of, plan_with, version_in};
 ghost use Rattle.railway_plan.specs.Entries.{block_entry, names_of, plan_entries};
 
 use crate::bounds::VERSION;
-use crate::fault::{PlanTextFault, Section, Why};
+use crate::fault::{PlanTextFault, Reason, Section};
 use crate::key::{Key, PLAN_KEYS};
 use crate::members::read_members;
 use crate::names::block_index;
@@ -69,13 +69,13 @@ pub fn read(alloc: Global, text: &[u8], roster: &Roster) -> Result<Plan, PlanTex
 }
 
 /// Returns a fault of the whole.
-fn of_whole(why: Why) -> PlanTextFault
+fn of_whole(why: Reason) -> PlanTextFault
     ensures { result ≡ record { section = WholeSection; why = why; names = None } }
 {
     fault(Section::Whole, why)
 }
 
-fn fault(section: Section, why: Why) -> PlanTextFault
+fn fault(section: Section, why: Reason) -> PlanTextFault
     ensures { result ≡ record { section = section; why = why; names = None } }
 {
     PlanTextFault {
@@ -86,15 +86,15 @@ fn fault(section: Section, why: Why) -> PlanTextFault
 }
 
 /// Returns the table of a text, or `NotToml` or `NoMemory`.
-fn table_of(alloc: Global, text: &[u8]) -> Result<Table, Why>
+fn table_of(alloc: Global, text: &[u8]) -> Result<Table, Reason>
     ensures ok { IfOk result (λ table. table_in text.now ≡ Some (table_view table)) }
     ensures refused { IfErr result
         (λ why. why ≢ NoMemory → (why ≡ NotToml) × (table_in text.now ≡ None)) }
 {
     match read_toml(alloc, text) {
         Ok(table) => Ok(table),
-        Err(roster::Why::NoMemory) => Err(Why::NoMemory),
-        Err(_) => Err(Why::NotToml),
+        Err(roster::RosterFaultKind::NoMemory) => Err(Reason::NoMemory),
+        Err(_) => Err(Reason::NotToml),
     }
 }
 
@@ -119,7 +119,7 @@ fn read_version(table: &Table) -> Result<(), PlanTextFault>
         (λ fault. in_section WholeSection (version_in (table_view table.now)) ≡ Err fault) }
 {
     if !knows_only(table, &PLAN_KEYS) {
-        return Err(of_whole(Why::UnknownKey));
+        return Err(of_whole(Reason::UnknownKey));
     }
     match number_at(table, Key::Version, VERSION) {
         Ok(_) => Ok(()),
@@ -139,7 +139,7 @@ fn members(table: &Table, key: Key, most: usize) -> Result<&[Value], PlanTextFau
 {
     match array(key, value_at(table, key)) {
         Ok(values) if values.len() <= most => Ok(values),
-        Ok(_) => Err(of_whole(Why::TooMany(key))),
+        Ok(_) => Err(of_whole(Reason::TooMany(key))),
         Err(why) => Err(of_whole(why)),
     }
 }
@@ -200,7 +200,7 @@ fn check_names(blocks: &[Block]) -> Result<(), PlanTextFault>
 {
     for (i, block) in blocks.iter().enumerate() {
         if block_index(&blocks[i + 1..], block.name.as_str()).is_some() {
-            return Err(fault(Section::Block(i + 1), Why::RepeatedName));
+            return Err(fault(Section::Block(i + 1), Reason::RepeatedName));
         }
     }
     Ok(())

@@ -5,7 +5,7 @@ ghost use Rattle.railway_plan.specs.Sought.{is_sought};
 ghost use Rattle.railway_plan.specs.Details.{any_text, end_name, has_value, is_same, joint_names, last_from, last_naming, last_with, member_value, names_at, other_at, part_at, parts_at, same_integer, same_text, turnout_names, value_in};
 
 use crate::details::{LONGEST_WORD, Word, shown};
-use crate::fault::{Section, Why};
+use crate::fault::{Reason, Section};
 use crate::key::Key;
 use crate::locating::{name_at, value_in};
 use crate::table::value_at;
@@ -185,23 +185,23 @@ fn last_like(whole: &Table, section: Section, key: Key, kind: Key) -> Option<usi
 }
 
 /// The last part with the same name, sensor, decoder or end.
-pub(crate) fn other_at(whole: &Table, why: Why, section: Section) -> Option<Section>
+pub(crate) fn other_at(whole: &Table, why: Reason, section: Section) -> Option<Section>
     ensures { result ≡ other_at why section (table_view whole.now) }
 {
     match why {
-        Why::RepeatedName => {
+        Reason::RepeatedName => {
             let number = last_like(whole, section, Key::Name, Key::Block)?;
             Some(Section::Block(number))
         }
-        Why::RepeatedSensor => {
+        Reason::RepeatedSensor => {
             let number = last_like(whole, section, Key::Sensor, Key::Block)?;
             Some(Section::Block(number))
         }
-        Why::RepeatedDecoder => {
+        Reason::RepeatedDecoder => {
             let number = last_like(whole, section, Key::Decoder, Key::Train)?;
             Some(Section::Train(number))
         }
-        Why::RepeatedEnd(end) => naming_block(whole, &shown(name_at(whole, section))?, end),
+        Reason::RepeatedEnd(end) => naming_block(whole, &shown(name_at(whole, section))?, end),
         _ => None,
     }
 }

@@ -4,7 +4,7 @@ ghost use Rattle.toml.specs.View.{items_view, table_view, view};
 ghost use Rattle.railway_plan.specs.Format.{array_or_none, feedback_or_none, in_range, is_coordinate, number_at, point_of, point_of_items, point_of_two, point_or_none, rate_or_none, sensor_or_none, text_at, time_or_none, value_at};
 
 use crate::bounds::{Bounds, RATE, SENSOR, TIME};
-use crate::fault::Why;
+use crate::fault::Reason;
 use crate::key::Key;
 use railway::Point;
 use toml::{Table, Value};
@@ -21,46 +21,46 @@ pub(crate) fn value_at<'a>(table: &'a Table, key: Key) -> Option<&'a Value>
 }
 
 /// Returns the text at a key.
-pub(crate) fn text_at<'a>(table: &'a Table, key: Key) -> Result<&'a str, Why>
+pub(crate) fn text_at<'a>(table: &'a Table, key: Key) -> Result<&'a str, Reason>
     ensures { MatchResult result (λ text. text_at key (table_view table.now) ≡ Ok text.now)
         (λ why. text_at key (table_view table.now) ≡ Err why) }
 {
     match value_at(table, key) {
         Some(value) => match value.as_str() {
             Some(text) => Ok(text),
-            None => Err(Why::BadKey(key)),
+            None => Err(Reason::BadKey(key)),
         },
-        None => Err(Why::BadKey(key)),
+        None => Err(Reason::BadKey(key)),
     }
 }
 
 /// Returns the number at a key.
-pub(crate) fn number_at(table: &Table, key: Key, bounds: Bounds) -> Result<u32, Why>
+pub(crate) fn number_at(table: &Table, key: Key, bounds: Bounds) -> Result<u32, Reason>
     ensures { result ≡ number_at key bounds (table_view table.now) }
 {
     match value_at(table, key) {
         Some(value) => match value.as_integer() {
             Some(number) => in_range(key, bounds, number),
-            None => Err(Why::BadKey(key)),
+            None => Err(Reason::BadKey(key)),
         },
-        None => Err(Why::BadKey(key)),
+        None => Err(Reason::BadKey(key)),
     }
 }
 
 /// Returns a number within the bounds of a key.
-fn in_range(key: Key, bounds: Bounds, number: i64) -> Result<u32, Why>
+fn in_range(key: Key, bounds: Bounds, number: i64) -> Result<u32, Reason>
     ensures { result ≡ in_range key bounds number }
 {
     let (least, most) = (i64::from(bounds.least), i64::from(bounds.most));
     if least <= number && number <= most {
         Ok(number as u32)
     } else {
-        Err(Why::BadKey(key))
+        Err(Reason::BadKey(key))
     }
 }
 
 /// Returns the sensor of a block, which may have none.
-pub(crate) fn sensor(value: Option<&Value>) -> Result<Option<u16>, Why>
+pub(crate) fn sensor(value: Option<&Value>) -> Result<Option<u16>, Reason>
     ensures { result ≡ sensor_or_none (option_map (λ value. view value.now) value.entry) }
 {
     let Some(value) = value else {
@@ -68,12 +68,12 @@ pub(crate) fn sensor(value: Option<&Value>) -> Result<Option<u16>, Why>
     };
     match value.as_integer() {
         Some(number) => Ok(Some(in_range(Key::Sensor, SENSOR, number)? as u16)),
-        None => Err(Why::BadKey(Key::Sensor)),
+        None => Err(Reason::BadKey(Key::Sensor)),
     }
 }
 
 /// Returns the rate at a key, which may be left out.
-pub(crate) fn rate(key: Key, value: Option<&Value>) -> Result<Option<u16>, Why>
+pub(crate) fn rate(key: Key, value: Option<&Value>) -> Result<Option<u16>, Reason>
     ensures { result ≡ rate_or_none key (option_map (λ value. view value.now) value.entry) }
 {
     let Some(value) = value else {
@@ -81,12 +81,12 @@ pub(crate) fn rate(key: Key, value: Option<&Value>) -> Result<Option<u16>, Why>
     };
     match value.as_integer() {
         Some(number) => Ok(Some(in_range(key, RATE, number)? as u16)),
-        None => Err(Why::BadKey(key)),
+        None => Err(Reason::BadKey(key)),
     }
 }
 
 /// Returns the time of a turnout, which may be left out; then it is 0.
-pub(crate) fn time(value: Option<&Value>) -> Result<u16, Why>
+pub(crate) fn time(value: Option<&Value>) -> Result<u16, Reason>
     ensures { result ≡ time_or_none (option_map (λ value. view value.now) value.entry) }
 {
     let Some(value) = value else {
@@ -94,12 +94,12 @@ pub(crate) fn time(value: Option<&Value>) -> Result<u16, Why>
     };
     match value.as_integer() {
         Some(number) => Ok(in_range(Key::Time, TIME, number)? as u16),
-        None => Err(Why::BadKey(Key::Time)),
+        None => Err(Reason::BadKey(Key::Time)),
     }
 }
 
 /// Returns whether a turnout has feedback; it has none if that is left out.
-pub(crate) fn feedback(value: Option<&Value>) -> Result<bool, Why>
+pub(crate) fn feedback(value: Option<&Value>) -> Result<bool, Reason>
     ensures { result ≡ feedback_or_none (option_map (λ value. view value.now) value.entry) }
 {
     let Some(value) = value else {
@@ -107,12 +107,12 @@ pub(crate) fn feedback(value: Option<&Value>) -> Result<bool, Why>
     };
     match value.as_bool() {
         Some(has_feedback) => Ok(has_feedback),
-        None => Err(Why::BadKey(Key::Feedback)),
+        None => Err(Reason::BadKey(Key::Feedback)),
     }
 }
 
 /// Returns the point at a key, which may be left out.
-pub(crate) fn point(key: Key, value: Option<&Value>) -> Result<Option<Point>, Why>
+pub(crate) fn point(key: Key, value: Option<&Value>) -> Result<Option<Point>, Reason>
     ensures { result ≡ point_or_none key (option_map (λ value. view value.now) value.entry) }
 {
     let Some(value) = value else {
@@ -120,7 +120,7 @@ pub(crate) fn point(key: Key, value: Option<&Value>) -> Result<Option<Point>, Wh
     };
     match point_of(value) {
         Some(point) => Ok(Some(point)),
-        None => Err(Why::BadKey(key)),
+        None => Err(Reason::BadKey(key)),
     }
 }
 
@@ -158,7 +158,7 @@ fn is_coordinate(number: i64) -> bool
 }
 
 /// Returns the members of the array at a key, none if it is left out.
-pub(crate) fn array(key: Key, value: Option<&Value>) -> Result<&[Value], Why>
+pub(crate) fn array(key: Key, value: Option<&Value>) -> Result<&[Value], Reason>
     ensures { MatchResult result
         (λ values. array_or_none key (option_map (λ value. view value.now) value.entry)
         ≡ Ok (items_view values.now))
@@ -169,6 +169,6 @@ pub(crate) fn array(key: Key, value: Option<&Value>) -> Result<&[Value], Why>
     };
     match value.as_array() {
         Some(values) => Ok(values.as_slice()),
-        None => Err(Why::BadKey(key)),
+        None => Err(Reason::BadKey(key)),
     }
 }

@@ -11,7 +11,7 @@ use Rattle.toml.specs.View.{items_of, items_view, view}
 use Rattle.decoder_cv.specs.declared.cv_pair.CvPair.{CvPair}
 use Rattle.decoder_cv.specs.declared.cv_fault.CvFault.TheVariants.{BadList}
 use Rattle.decoder_cv.specs.Listed.{listed}
-use Rattle.roster.specs.declared.fault.Why.TheVariants.{BadCv, BadCvList}
+use Rattle.roster.specs.declared.fault.RosterFaultKind.TheVariants.{BadCv, BadCvList}
 use Rattle.roster.specs.declared.pair.Pair.{Pair}
 use Rattle.roster.specs.Decoder.{loco_of}
 use Rattle.roster.specs.Format.{loco_listed}

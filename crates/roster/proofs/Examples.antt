@@ -5,7 +5,7 @@ use Rattle.std.specs.Char.{encode_utf8}
 use Rattle.toml.proofs.OnLiterals.{toml_on_literals}
 use Rattle.decoder_cv.specs.Settings.{settings}
 use Rattle.decoder_node.specs.declared.node.NodeSpec.TheVariants as node
-use Rattle.roster.specs.declared.fault.Why.TheVariants.{BadCv, BadCvList, Empty}
+use Rattle.roster.specs.declared.fault.RosterFaultKind.TheVariants.{BadCv, BadCvList, Empty}
 use Rattle.roster.specs.Format.{roster_in}
 
 no_node : roster_in (codes "version = 1") ≡ Err (record { why = Empty; node = 0 })

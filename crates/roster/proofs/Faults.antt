@@ -11,8 +11,8 @@ use Rattle.roster.specs.declared.described.Described.TheVariants.{Loco, Listed, 
 use Rattle.roster.specs.declared.pair.Pair.{Pair}
 use Rattle.roster.specs.declared.version.Version.{Version}
 use Rattle.roster.specs.declared.version.Version.TheVariants.{One, Two}
-use Rattle.roster.specs.declared.fault.Why.{Why}
-use Rattle.roster.specs.declared.fault.Why.TheVariants.{BadShape, BadName, BadCv, BadCvList, BadModule, NoMemory}
+use Rattle.roster.specs.declared.fault.RosterFaultKind.{RosterFaultKind}
+use Rattle.roster.specs.declared.fault.RosterFaultKind.TheVariants.{BadShape, BadName, BadCv, BadCvList, BadModule, NoMemory}
 use Rattle.roster.specs.Entry.{Entry}
 use Rattle.roster.specs.Decoder.{accessory_of, loco_of}
 use Rattle.roster.specs.Format.{accessory_in, described_as, entry_of, loco_in, loco_in_keys, loco_in_list, loco_listed, name_after, decoder_of}
@@ -23,10 +23,10 @@ use Rattle.roster.specs.Steps.{◌>>=◌, or_fault}
 use Rattle.roster.specs.Toml.{integer_or}
 
 -- if it is a fault, then not of memory
-pub record NeverMemory {A : Type 0} (r : Result A Why) : Type 0 where
+pub record NeverMemory {A : Type 0} (r : Result A RosterFaultKind) : Type 0 where
   pub fault : IfErr r (λ why. why ≢ NoMemory)
 
-abbrev good : {A : Type 0} → A → Result A Why
+abbrev good : {A : Type 0} → A → Result A RosterFaultKind
 good x = Ok x
 
 done : {A : Type 0} (x : A) → NeverMemory (good x)
@@ -47,11 +47,11 @@ bad_cv_list A = record { fault = λ e. cc }
 bad_module : (A : Type 0) → NeverMemory {A = A} (Err BadModule)
 bad_module A = record { fault = λ e. cc }
 
-in_turn : {A B : Type 0} (r : Result A Why) (f : A → Result B Why) → NeverMemory r → ((x : A) → NeverMemory (f x)) → NeverMemory (r >>= f)
+in_turn : {A B : Type 0} (r : Result A RosterFaultKind) (f : A → Result B RosterFaultKind) → NeverMemory r → ((x : A) → NeverMemory (f x)) → NeverMemory (r >>= f)
 in_turn (Ok x) f first next = next x
 in_turn (Err why) f first next = record { fault = first.fault }
 
-in_both : {A : Type 0} (b : Bool) (r s : Result A Why) → NeverMemory r → NeverMemory s → NeverMemory (if b then r else s)
+in_both : {A : Type 0} (b : Bool) (r s : Result A RosterFaultKind) → NeverMemory r → NeverMemory s → NeverMemory (if b then r else s)
 in_both true r s first next = first
 in_both false r s first next = next
 

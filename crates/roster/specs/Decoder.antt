@@ -6,19 +6,19 @@ use Rattle.decoder_cv.specs.declared.cv_fault.CvFault.{CvFault}
 use Rattle.decoder_cv.specs.declared.cv_fault.CvFault.TheVariants.{BadCv1, BadCv17, NotLoco, BadList}
 use Rattle.decoder_node.specs.declared.node.NodeSpec.{NodeSpec}
 use Rattle.decoder_node.specs.declared.node.NodeSpec.TheVariants as node
-use Rattle.roster.specs.declared.fault.Why.{Why}
-use Rattle.roster.specs.declared.fault.Why.TheVariants.{BadCv, BadModule, BadCvList}
+use Rattle.roster.specs.declared.fault.RosterFaultKind.{RosterFaultKind}
+use Rattle.roster.specs.declared.fault.RosterFaultKind.TheVariants.{BadCv, BadModule, BadCvList}
 
-abbrev pub fault_of : CvFault → Why
+abbrev pub fault_of : CvFault → RosterFaultKind
 fault_of BadList = BadCvList
 fault_of BadCv1 = BadCv
 fault_of BadCv17 = BadCv
 fault_of NotLoco = BadCv
 
-abbrev pub loco_of : Result Settings CvFault → Result NodeSpec Why
+abbrev pub loco_of : Result Settings CvFault → Result NodeSpec RosterFaultKind
 loco_of (Ok cv) = Ok (node.Loco cv)
 loco_of (Err fault) = Err (fault_of fault)
 
-abbrev pub accessory_of : ℤ → Result NodeSpec Why
+abbrev pub accessory_of : ℤ → Result NodeSpec RosterFaultKind
 accessory_of (pos n) = if is_module n then Ok (node.Accessory n) else Err BadModule
 accessory_of (negsuc n) = Err BadModule

@@ -7,7 +7,7 @@ use Rattle.decoder_cv.specs.Listed.{listed}
 use Rattle.decoder_cv.specs.declared.cv_fault.CvFault.{CvFault}
 use Rattle.roster.specs.declared.described.Described.{Described}
 use Rattle.roster.specs.declared.described.Described.TheVariants.{Loco, Listed, Accessory}
-use Rattle.roster.specs.declared.fault.Why.{Why}
+use Rattle.roster.specs.declared.fault.RosterFaultKind.{RosterFaultKind}
 use Rattle.roster.specs.Format.{described_as, name_after, version_in}
 use Rattle.roster.specs.FourVariables.{fault_of_four}
 use Rattle.roster.specs.Pairs.{cv_pairs_after}
@@ -37,11 +37,11 @@ abbrev pub node_table_at : Members → (node : ℕ) → Option Members
 node_table_at table node = option_and_then as_table (node_at table node)
 
 -- its name, if it is one
-abbrev pub name_in : Members → Result (List ℕ) Why
+abbrev pub name_in : Members → Result (List ℕ) RosterFaultKind
 name_in node = text_at (codes "name") node >>= name_after []
 
 -- what it says of its decoder, in the version of the whole
-abbrev pub described_in : (whole node : Members) → Result Described Why
+abbrev pub described_in : (whole node : Members) → Result Described RosterFaultKind
 described_in whole node = do
   version ← version_in whole
   kind ← text_at (codes "kind") node
@@ -53,7 +53,7 @@ cv_fault_of (Loco values) = fault_of_four values
 cv_fault_of (Listed pairs) = option_and_then (λ taken. result_err (listed taken)) (cv_pairs_after [] pairs)
 cv_fault_of (Accessory number) = None
 
-abbrev pub cv_fault_in : Result Described Why → Option CvFault
+abbrev pub cv_fault_in : Result Described RosterFaultKind → Option CvFault
 cv_fault_in (Ok described) = cv_fault_of described
 cv_fault_in (Err why) = None
 

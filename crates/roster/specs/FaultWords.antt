@@ -2,10 +2,10 @@
 use Rattle.std.specs.Prelude.{ℕ, List, Option, Some, None, codes}
 use Rattle.decoder_cv.specs.declared.cv_fault.CvFault.{CvFault}
 use Rattle.decoder_cv.specs.declared.cv_fault.CvFault.TheVariants.{BadCv1, BadCv17, NotLoco, BadList}
-use Rattle.roster.specs.declared.fault.Why.{Why}
-use Rattle.roster.specs.declared.fault.Why.TheVariants.{NotToml, BadShape, TooMany, BadName, BadCv, BadModule, Empty, NoMemory, BadCvList}
+use Rattle.roster.specs.declared.fault.RosterFaultKind.{RosterFaultKind}
+use Rattle.roster.specs.declared.fault.RosterFaultKind.TheVariants.{NotToml, BadShape, TooMany, BadName, BadCv, BadModule, Empty, NoMemory, BadCvList}
 
-unfoldable pub words_of : Why → List ℕ
+unfoldable pub words_of : RosterFaultKind → List ℕ
 words_of NotToml = codes "the text is not TOML, or not UTF-8"
 words_of BadShape = codes "a key is missing or unknown, or a value has another type"
 words_of TooMany = codes "more than 64 nodes"
@@ -25,6 +25,6 @@ cv_words_of (Some NotLoco) = codes "bit 7 of CV29 must be 0"
 cv_words_of (Some BadList) = words_of BadCvList
 
 -- the words for a fault, with what is wrong with the variables
-abbrev pub fault_words : Why → Option CvFault → List ℕ
+abbrev pub fault_words : RosterFaultKind → Option CvFault → List ℕ
 fault_words BadCv cv = cv_words_of cv
 fault_words why cv = words_of why

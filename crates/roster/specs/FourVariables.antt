@@ -5,17 +5,17 @@ use Rattle.decoder_cv.specs.Settings.{Settings, settings_of}
 use Rattle.decoder_cv.specs.declared.cv_fault.CvFault.{CvFault}
 use Rattle.decoder_cv.specs.declared.cv_pair.CvPair.{CvPair}
 use Rattle.decoder_node.specs.declared.node.NodeSpec.{NodeSpec}
-use Rattle.roster.specs.declared.fault.Why.{Why}
-use Rattle.roster.specs.declared.fault.Why.TheVariants.{BadCv}
+use Rattle.roster.specs.declared.fault.RosterFaultKind.{RosterFaultKind}
+use Rattle.roster.specs.declared.fault.RosterFaultKind.TheVariants.{BadCv}
 use Rattle.roster.specs.Decoder.{loco_of}
 use Rattle.roster.specs.declared.four_variables.FourVariables.{FourVariables}
 use Rattle.roster.specs.Steps.{◌>>=◌}
 
-abbrev pub byte_of : ℤ → Result ℕ Why
+abbrev pub byte_of : ℤ → Result ℕ RosterFaultKind
 byte_of (pos n) = if nat_lt n 256 then Ok n else Err BadCv
 byte_of (negsuc n) = Err BadCv
 
-abbrev pub bytes_of : FourVariables ℤ → Result (FourVariables ℕ) Why
+abbrev pub bytes_of : FourVariables ℤ → Result (FourVariables ℕ) RosterFaultKind
 bytes_of values = do
   a ← byte_of values.cv1
   b ← byte_of values.cv17
@@ -27,13 +27,13 @@ abbrev pub settings_of_bytes : FourVariables ℕ → Result Settings CvFault
 settings_of_bytes bytes = settings_of bytes.cv1 bytes.cv17 bytes.cv18 bytes.cv29
 
 -- the decoder that they make
-abbrev pub decoder_of_four : FourVariables ℤ → Result NodeSpec Why
+abbrev pub decoder_of_four : FourVariables ℤ → Result NodeSpec RosterFaultKind
 decoder_of_four values = do
   bytes ← bytes_of values
   loco_of (settings_of_bytes bytes)
 
 -- what is wrong with them, if they are bytes
-abbrev pub fault_if : Result (FourVariables ℕ) Why → Option CvFault
+abbrev pub fault_if : Result (FourVariables ℕ) RosterFaultKind → Option CvFault
 fault_if (Ok bytes) = result_err (settings_of_bytes bytes)
 fault_if (Err why) = None
 
@@ -46,7 +46,7 @@ pairs_of_bytes bytes =
     record { number = 1; value = bytes.cv1 } ∷ record { number = 17; value = bytes.cv17 }
     ∷ record { number = 18; value = bytes.cv18 } ∷ record { number = 29; value = bytes.cv29 } ∷ []
 
-abbrev pub pairs_if : Result (FourVariables ℕ) Why → Option (List CvPair)
+abbrev pub pairs_if : Result (FourVariables ℕ) RosterFaultKind → Option (List CvPair)
 pairs_if (Ok bytes) = Some (pairs_of_bytes bytes)
 pairs_if (Err why) = None
 

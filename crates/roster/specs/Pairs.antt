@@ -3,8 +3,8 @@ use Rattle.std.specs.Prelude.{ℕ, ℤ, pos, negsuc, nat_lt, Bool, false, if◌t
 use Rattle.std.specs.List.{filter_map, list_all}
 use Rattle.toml.specs.Data.{Data, Items, no_items, item, as_array, as_integer}
 use Rattle.decoder_cv.specs.declared.cv_pair.CvPair.{CvPair}
-use Rattle.roster.specs.declared.fault.Why.{Why}
-use Rattle.roster.specs.declared.fault.Why.TheVariants.{BadShape}
+use Rattle.roster.specs.declared.fault.RosterFaultKind.{RosterFaultKind}
+use Rattle.roster.specs.declared.fault.RosterFaultKind.TheVariants.{BadShape}
 use Rattle.roster.specs.declared.pair.Pair.{Pair}
 use Rattle.roster.specs.Steps.{◌>>=◌, or_fault}
 
@@ -37,10 +37,10 @@ abbrev pub pairs_of : List Data → List Pair
 pairs_of values = filter_map pair_of values
 
 -- `cvs` is an array of pairs
-abbrev pub pairs_in : Items → Result (List Pair) Why
+abbrev pub pairs_in : Items → Result (List Pair) RosterFaultKind
 pairs_in items = if are_pairs (values_in items) then Ok (pairs_of (values_in items)) else Err BadShape
 
-abbrev pub cvs_of : Data → Result (List Pair) Why
+abbrev pub cvs_of : Data → Result (List Pair) RosterFaultKind
 cvs_of value = or_fault (as_array value) BadShape >>= pairs_in
 
 -- the value is a byte

@@ -4,8 +4,8 @@ use Rattle.std.specs.List.{list_any}
 use Rattle.std.specs.Str.{bytes_eq, is_utf8}
 use Rattle.toml.specs.Data.{Data, Items, no_items, item, Members, no_members, member, get_member, as_str, as_integer}
 use Rattle.toml.specs.Parse.{parse_document}
-use Rattle.roster.specs.declared.fault.Why.{Why}
-use Rattle.roster.specs.declared.fault.Why.TheVariants.{BadShape}
+use Rattle.roster.specs.declared.fault.RosterFaultKind.{RosterFaultKind}
+use Rattle.roster.specs.declared.fault.RosterFaultKind.TheVariants.{BadShape}
 use Rattle.roster.specs.Steps.{or_fault}
 
 -- the table of a text that is UTF-8 and TOML
@@ -22,13 +22,13 @@ knows_only known no_members = true
 knows_only known (member key value members) = list_any (λ word. bytes_eq word key) known && knows_only known members
 
 -- The text and the integer at a key, which has to be there.
-abbrev pub text_at : List ℕ → Members → Result (List ℕ) Why
+abbrev pub text_at : List ℕ → Members → Result (List ℕ) RosterFaultKind
 text_at key table = or_fault (option_and_then as_str (get_member key table)) BadShape
 
-abbrev pub integer_at : List ℕ → Members → Result ℤ Why
+abbrev pub integer_at : List ℕ → Members → Result ℤ RosterFaultKind
 integer_at key table = or_fault (option_and_then as_integer (get_member key table)) BadShape
 
 -- the integer of a value, and another where there is no value
-abbrev pub integer_or : Option Data → ℤ → Result ℤ Why
+abbrev pub integer_or : Option Data → ℤ → Result ℤ RosterFaultKind
 integer_or None default = Ok default
 integer_or (Some value) default = or_fault (as_integer value) BadShape

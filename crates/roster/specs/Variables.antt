@@ -4,7 +4,7 @@ use Rattle.toml.specs.Data.{Members}
 use Rattle.decoder_cv.specs.declared.cv_pair.CvPair.{CvPair}
 use Rattle.roster.specs.declared.described.Described.{Described}
 use Rattle.roster.specs.declared.described.Described.TheVariants.{Loco, Listed, Accessory}
-use Rattle.roster.specs.declared.fault.Why.{Why}
+use Rattle.roster.specs.declared.fault.RosterFaultKind.{RosterFaultKind}
 use Rattle.roster.specs.Details.{described_in, node_table_at}
 use Rattle.roster.specs.FourVariables.{pairs_of_four}
 use Rattle.roster.specs.Pairs.{cv_pairs_after}
@@ -16,7 +16,7 @@ variables_of (Loco values) = pairs_of_four values
 variables_of (Listed pairs) = cv_pairs_after [] pairs
 variables_of (Accessory number) = None
 
-abbrev pub variables_if : Result Described Why → Option (List CvPair)
+abbrev pub variables_if : Result Described RosterFaultKind → Option (List CvPair)
 variables_if (Ok described) = variables_of described
 variables_if (Err why) = None
 

@@ -6,7 +6,7 @@ ghost use Rattle.roster.specs.Format.{accessory_in, decoder_of, described_as, lo
 ghost use Rattle.roster.specs.Variables.{variables_of};
 
 use crate::decoder::accessory;
-use crate::fault::Why;
+use crate::fault::RosterFaultKind;
 use crate::four_variables::FourVariables;
 use crate::pairs::{CvPairs, Pairs};
 use crate::table::{integer_at, integer_or, knows_only, value_at};
@@ -28,7 +28,11 @@ pub(crate) enum Described<'a> {
 
 impl<'a> Described<'a> {
     /// What the table says, with `kind` the value at that key, or `BadShape`.
-    pub(crate) fn read(version: Version, kind: &str, table: &'a Table) -> Result<Described<'a>, Why>
+    pub(crate) fn read(
+        version: Version,
+        kind: &str,
+        table: &'a Table,
+    ) -> Result<Described<'a>, RosterFaultKind>
         ensures { result ≡ described_as version kind.now (table_view table.now) }
     {
         match kind {
@@ -37,12 +41,12 @@ impl<'a> Described<'a> {
                 Version::Two => read_list(table),
             },
             "accessory" => read_accessory(table),
-            _ => Err(Why::BadShape),
+            _ => Err(RosterFaultKind::BadShape),
         }
     }
 
     /// The decoder that these values make, or `BadCv`, `BadCvList` or `BadModule`.
-    pub(crate) fn spec(self) -> Result<NodeSpec, Why>
+    pub(crate) fn spec(self) -> Result<NodeSpec, RosterFaultKind>
         ensures { result ≡ decoder_of self.entry }
     {
         match self {
@@ -76,17 +80,17 @@ impl<'a> Described<'a> {
 }
 
 /// A locomotive of version 1, with a key for each variable.
-fn read_keys<'a>(table: &'a Table) -> Result<Described<'a>, Why>
+fn read_keys<'a>(table: &'a Table) -> Result<Described<'a>, RosterFaultKind>
     ensures { result ≡ loco_in_keys (table_view table.now) }
 {
     if !knows_only(table, &["name", "kind", "cv1", "cv17", "cv18", "cv29"]) {
-        return Err(Why::BadShape);
+        return Err(RosterFaultKind::BadShape);
     }
     read_variables(table)
 }
 
 /// The variables of a locomotive of version 1, of which two have a default.
-fn read_variables<'a>(table: &'a Table) -> Result<Described<'a>, Why>
+fn read_variables<'a>(table: &'a Table) -> Result<Described<'a>, RosterFaultKind>
     ensures { result ≡ variables_in (table_view table.now) }
 {
     let values = (
@@ -104,32 +108,32 @@ fn read_variables<'a>(table: &'a Table) -> Result<Described<'a>, Why>
                 cv29,
             },
         }),
-        _ => Err(Why::BadShape),
+        _ => Err(RosterFaultKind::BadShape),
     }
 }
 
 /// A locomotive of version 2, with a list of variables.
-fn read_list<'a>(table: &'a Table) -> Result<Described<'a>, Why>
+fn read_list<'a>(table: &'a Table) -> Result<Described<'a>, RosterFaultKind>
     ensures { result ≡ loco_in_list (table_view table.now) }
 {
     if !knows_only(table, &["name", "kind", "cvs"]) {
-        return Err(Why::BadShape);
+        return Err(RosterFaultKind::BadShape);
     }
     let Some(value) = value_at(table, "cvs") else {
-        return Err(Why::BadShape);
+        return Err(RosterFaultKind::BadShape);
     };
     let pairs = Pairs::read(value)?;
     Ok(Described::Listed { pairs })
 }
 
-fn read_accessory<'a>(table: &'a Table) -> Result<Described<'a>, Why>
+fn read_accessory<'a>(table: &'a Table) -> Result<Described<'a>, RosterFaultKind>
     ensures { result ≡ accessory_in (table_view table.now) }
 {
     if !knows_only(table, &["name", "kind", "module"]) {
-        return Err(Why::BadShape);
+        return Err(RosterFaultKind::BadShape);
     }
     match integer_at(table, "module") {
         Some(module) => Ok(Described::Accessory { module }),
-        None => Err(Why::BadShape),
+        None => Err(RosterFaultKind::BadShape),
     }
 }

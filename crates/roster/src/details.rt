@@ -3,7 +3,7 @@ ghost use Rattle.std.specs.Prelude.{◌≡◌, ◌+◌, ◌≤◌, Some, None, M
 ghost use Rattle.roster.specs.FaultWords.{cv_words_of, fault_words};
 
 use crate::entry::Name;
-use crate::fault::Why;
+use crate::fault::RosterFaultKind;
 use decoder_cv::CvFault;
 use std::marker::Model;
 
@@ -46,11 +46,11 @@ impl FaultDetails {
     }
 
     /// Returns what is wrong in words, for a fault of this kind.
-    pub fn words(&self, why: Why) -> &'static str
+    pub fn words(&self, why: RosterFaultKind) -> &'static str
         ensures { result.now ≡ fault_words why self.now.cv }
     {
         match why {
-            Why::BadCv => cv_words(self.cv),
+            RosterFaultKind::BadCv => cv_words(self.cv),
             _ => why.words(),
         }
     }
@@ -66,6 +66,6 @@ fn cv_words(fault: Option<CvFault>) -> &'static str
         Some(CvFault::BadCv1) => "CV1 must be 1 to 127",
         Some(CvFault::BadCv17) => "CV17 must be 192 to 231, since bit 5 of CV29 is 1",
         Some(CvFault::NotLoco) => "bit 7 of CV29 must be 0",
-        Some(CvFault::BadList) => Why::BadCvList.words(),
+        Some(CvFault::BadList) => RosterFaultKind::BadCvList.words(),
     }
 }

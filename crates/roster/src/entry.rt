@@ -5,7 +5,7 @@ ghost use Rattle.roster.specs.Entry.{is_free, is_name, is_taken};
 ghost use Rattle.roster.specs.Format.{entry_of, entry_with, name_after};
 
 use crate::described::Described;
-use crate::fault::Why;
+use crate::fault::RosterFaultKind;
 use crate::table::text_at;
 use crate::version::Version;
 use arrayvec::ArrayString;
@@ -39,22 +39,26 @@ impl Model for Entry {
 
 impl Entry {
     /// The entry of a node after the `earlier` ones, or its first fault.
-    pub(crate) fn read(version: Version, earlier: &[Entry], value: &Value) -> Result<Entry, Why>
+    pub(crate) fn read(
+        version: Version,
+        earlier: &[Entry],
+        value: &Value,
+    ) -> Result<Entry, RosterFaultKind>
         ensures answer { result ≡ entry_of version earlier.now (view value.now) }
         ensures free { IfOk result (λ entry. IsTrue (is_free earlier.now entry.name)) }
     {
         let Some(table) = value.as_table() else {
-            return Err(Why::BadShape);
+            return Err(RosterFaultKind::BadShape);
         };
         let (Some(name), Some(kind)) = (text_at(table, "name"), text_at(table, "kind")) else {
-            return Err(Why::BadShape);
+            return Err(RosterFaultKind::BadShape);
         };
         let described = Described::read(version, kind, table)?;
         Entry::of(earlier, name, described)
     }
 
     /// The entry of this name and this decoder after the `earlier` ones, or its first fault.
-    fn of(earlier: &[Entry], name: &str, described: Described<'_>) -> Result<Entry, Why>
+    fn of(earlier: &[Entry], name: &str, described: Described<'_>) -> Result<Entry, RosterFaultKind>
         ensures answer { result ≡ entry_with earlier.now name.now described.entry }
         ensures free { IfOk result (λ entry. IsTrue (is_free earlier.now entry.name)) }
     {
@@ -79,17 +83,17 @@ impl Entry {
 }
 
 /// The name of the next entry, or `BadName`.
-pub(crate) fn read_name(earlier: &[Entry], name: &str) -> Result<Name, Why>
+pub(crate) fn read_name(earlier: &[Entry], name: &str) -> Result<Name, RosterFaultKind>
     ensures answer { MatchResult result (λ text. name_after earlier.now name.now ≡ Ok text.bytes)
         (λ why. name_after earlier.now name.now ≡ Err why) }
     ensures free { IfOk result (λ text. IsTrue (is_free earlier.now text.bytes)) }
 {
     if !is_name(name) || is_taken(earlier, name) {
-        return Err(Why::BadName);
+        return Err(RosterFaultKind::BadName);
     }
     match Name::from(name) {
         Ok(name) => Ok(name),
-        Err(_) => Err(Why::BadName),
+        Err(_) => Err(RosterFaultKind::BadName),
     }
 }
 

@@ -4,7 +4,7 @@ ghost use Rattle.roster.specs.FaultWords.{words_of};
 
 /// Why a roster is refused, by the number that `station` reports, unless memory ran out.
 #[derive(Clone, Copy, Debug, PartialEq, Eq)]
-pub enum Why {
+pub enum RosterFaultKind {
     /// The text is not TOML, or not UTF-8.
     NotToml = 1,
     /// A key is missing or unknown, a value is of a wrong type, or it is another `kind` or
@@ -28,7 +28,7 @@ pub enum Why {
     BadCvList = 9,
 }
 
-impl Why {
+impl RosterFaultKind {
     /// Returns what is wrong, in words.
     #[tactic(auto, unfolding(crate::specs::FaultWords::words_of))]
     pub fn words(self) -> &'static str
@@ -36,17 +36,19 @@ impl Why {
         ensures len { length result.now ≤ 90 }
     {
         match self {
-            Why::NotToml => "the text is not TOML, or not UTF-8",
-            Why::BadShape => "a key is missing or unknown, or a value has another type",
-            Why::TooMany => "more than 64 nodes",
-            Why::BadName => "a name is not 1 to 16 letters, digits, - or _, or another node has it",
-            Why::BadCv => {
+            RosterFaultKind::NotToml => "the text is not TOML, or not UTF-8",
+            RosterFaultKind::BadShape => "a key is missing or unknown, or a value has another type",
+            RosterFaultKind::TooMany => "more than 64 nodes",
+            RosterFaultKind::BadName =>
+                "a name is not 1 to 16 letters, digits, - or _, or another node has it",
+            RosterFaultKind::BadCv => {
                 "a configuration variable is not 0 to 255, or the values make no locomotive decoder"
             }
-            Why::BadModule => "a module is not 1 to 510",
-            Why::Empty => "no node",
-            Why::NoMemory => "no memory",
-            Why::BadCvList => "cvs has a number outside 1 to 1024, or one twice, or lacks 1 or 29",
+            RosterFaultKind::BadModule => "a module is not 1 to 510",
+            RosterFaultKind::Empty => "no node",
+            RosterFaultKind::NoMemory => "no memory",
+            RosterFaultKind::BadCvList =>
+                "cvs has a number outside 1 to 1024, or one twice, or lacks 1 or 29",
         }
     }
 }
@@ -55,7 +57,7 @@ impl Why {
 #[derive(Clone, Copy, Debug, PartialEq, Eq)]
 pub struct RosterFault {
     /// What is wrong.
-    pub why: Why,
+    pub why: RosterFaultKind,
     /// The node, 1 to 64, or 0.
     pub node: u8,
 }

@@ -4,7 +4,7 @@ ghost use Rattle.decoder_cv.specs.Settings.{settings_of};
 ghost use Rattle.roster.specs.FourVariables.{byte_of, bytes_of, decoder_of_four, fault_of_four, pairs_of_bytes, pairs_of_four};
 
 use crate::decoder::loco;
-use crate::fault::Why;
+use crate::fault::RosterFaultKind;
 use crate::pairs::CvPairs;
 use decoder_cv::{CvFault, CvPair, CvSet};
 use decoder_node::NodeSpec;
@@ -20,7 +20,7 @@ pub(crate) struct FourVariables<T> {
 
 impl FourVariables<i64> {
     /// The decoder that the variables make, or `BadCv`.
-    pub(crate) fn decoder(self) -> Result<NodeSpec, Why>
+    pub(crate) fn decoder(self) -> Result<NodeSpec, RosterFaultKind>
         ensures { result ≡ decoder_of_four self }
     {
         loco(self.bytes()?.settings())
@@ -47,7 +47,7 @@ impl FourVariables<i64> {
     }
 
     /// The values as bytes, or `BadCv` if one is outside 0 to 255.
-    fn bytes(self) -> Result<FourVariables<u8>, Why>
+    fn bytes(self) -> Result<FourVariables<u8>, RosterFaultKind>
         ensures { result ≡ bytes_of self }
     {
         Ok(FourVariables {
@@ -87,11 +87,11 @@ fn pair(number: u16, value: u8) -> CvPair
 }
 
 /// The value of a configuration variable, or `BadCv` outside 0 to 255.
-fn byte(value: i64) -> Result<u8, Why>
+fn byte(value: i64) -> Result<u8, RosterFaultKind>
     ensures { result ≡ byte_of value }
 {
     match value {
         0..=255 => Ok(value as u8),
-        _ => Err(Why::BadCv),
+        _ => Err(RosterFaultKind::BadCv),
     }
 }

@@ -19,7 +19,7 @@ mod table;
 mod version;
 
 pub use details::FaultDetails;
-pub use fault::{RosterFault, Why};
+pub use fault::{RosterFault, RosterFaultKind};
 pub use locating::fault_details;
 pub use node_variables::variables;
 pub use pairs::CvPairs;

@@ -8,7 +8,7 @@ ghost use Rattle.roster.specs.Toml.{table_in};
 use crate::described::Described;
 use crate::details::FaultDetails;
 use crate::entry::{Name, read_name};
-use crate::fault::Why;
+use crate::fault::RosterFaultKind;
 use crate::reading::read_version;
 use crate::table::{text_at, value_at};
 use decoder_cv::CvFault;
@@ -105,13 +105,13 @@ fn node_value(whole: &Table, node: u8) -> Option<&Value>
 }
 
 /// The name of a node.
-fn name_in(table: &Table) -> Result<Name, Why>
+fn name_in(table: &Table) -> Result<Name, RosterFaultKind>
     ensures { MatchResult result (λ name. name_in (table_view table.now) ≡ Ok name.bytes)
         (λ why. name_in (table_view table.now) ≡ Err why) }
 {
     match text_at(table, "name") {
         Some(name) => read_name(&[], name),
-        None => Err(Why::BadShape),
+        None => Err(RosterFaultKind::BadShape),
     }
 }
 
@@ -126,12 +126,15 @@ fn cv_fault_in(whole: &Table, table: &Table) -> Option<CvFault>
 }
 
 /// What a node says of its decoder, in the version of the whole.
-pub(crate) fn described_in<'a>(whole: &Table, table: &'a Table) -> Result<Described<'a>, Why>
+pub(crate) fn described_in<'a>(
+    whole: &Table,
+    table: &'a Table,
+) -> Result<Described<'a>, RosterFaultKind>
     ensures { result ≡ described_in (table_view whole.now) (table_view table.now) }
 {
     let version = read_version(whole)?;
     match text_at(table, "kind") {
         Some(kind) => Described::read(version, kind, table),
-        None => Err(Why::BadShape),
+        None => Err(RosterFaultKind::BadShape),
     }
 }

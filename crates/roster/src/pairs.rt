@@ -9,7 +9,7 @@ ghost use Rattle.roster.specs.Format.{loco_listed};
 ghost use Rattle.roster.specs.Pairs.{cv_pairs_after, cvs_of, has_byte, pair_of, pairs_in, pairs_of};
 
 use crate::decoder::loco;
-use crate::fault::Why;
+use crate::fault::RosterFaultKind;
 use crate::pair::Pair;
 use arrayvec::ArrayVec;
 use decoder_cv::{CvFault, CvPair, CvSet};
@@ -44,40 +44,40 @@ impl<'a> Model for Pairs<'a> {
 
 impl<'a> Pairs<'a> {
     /// The pairs of `cvs`, or `BadShape` where it is no array of pairs.
-    pub(crate) fn read(value: &'a Value) -> Result<Pairs<'a>, Why>
+    pub(crate) fn read(value: &'a Value) -> Result<Pairs<'a>, RosterFaultKind>
         ensures { result ≡ cvs_of (view value.now) }
     {
         match value.as_array() {
             Some(values) => Pairs::of_values(values.as_slice()),
-            None => Err(Why::BadShape),
+            None => Err(RosterFaultKind::BadShape),
         }
     }
 
     /// These, or `BadShape` where one is no pair.
     #[tactic(auto, using(crate::proofs::Cvs::values_in_view, crate::proofs::Cvs::are_pairs_view))]
-    fn of_values(values: &'a [Value]) -> Result<Pairs<'a>, Why>
+    fn of_values(values: &'a [Value]) -> Result<Pairs<'a>, RosterFaultKind>
         ensures { result ≡ pairs_in (items_view values.now) }
     {
         if are_pairs(values) {
             Ok(Pairs { values })
         } else {
-            Err(Why::BadShape)
+            Err(RosterFaultKind::BadShape)
         }
     }
 
     /// The decoder that the variables make, or `BadCv` or `BadCvList`.
-    pub(crate) fn decoder(&self) -> Result<NodeSpec, Why>
+    pub(crate) fn decoder(&self) -> Result<NodeSpec, RosterFaultKind>
         ensures { result ≡ loco_listed self.now }
     {
         if !have_bytes(self.values) {
-            return Err(Why::BadCv);
+            return Err(RosterFaultKind::BadCv);
         }
         match cv_pairs(self.values) {
             Some(pairs) => loco(CvSet::of_list(pairs.as_slice())),
             // No `u16` holds one of the numbers, or there are more pairs than variables.
             None => {
                 decoder_cv::laws::long_lists_are_refused();
-                Err(Why::BadCvList)
+                Err(RosterFaultKind::BadCvList)
             }
         }
     }

@@ -1,13 +1,13 @@
 //! Reading a roster.
 ghost use Rattle.std.specs.Prelude.{◌≡◌, ◌≢◌, ◌≤◌, [], Ok, Err, Some, None, IfOk, IfErr, IsUtf8, MatchResult, length, option_map};
 ghost use Rattle.toml.specs.View.{items_view, table_view, view};
-ghost use Rattle.roster.specs.declared.fault.Why.TheVariants.{NoMemory, NotToml};
+ghost use Rattle.roster.specs.declared.fault.RosterFaultKind.TheVariants.{NoMemory, NotToml};
 ghost use Rattle.roster.specs.Entry.{IsRoster};
 ghost use Rattle.roster.specs.Format.{array_or_none, entries_after, nodes_in, roster_in, roster_of, version_in};
 ghost use Rattle.roster.specs.Toml.{table_in};
 
 use crate::entry::Entry;
-use crate::fault::{RosterFault, Why};
+use crate::fault::{RosterFault, RosterFaultKind};
 use crate::roster::{Entries, Roster};
 use crate::table::{integer_at, knows_only, value_at};
 use crate::version::Version;
@@ -17,7 +17,7 @@ use std::str;
 use toml::{Table, Value};
 
 /// A fault of the whole.
-fn of_all(why: Why) -> RosterFault
+fn of_all(why: RosterFaultKind) -> RosterFault
     ensures { result ≡ record { why = why; node = 0 } }
 {
     RosterFault { why, node: 0 }
@@ -70,7 +70,7 @@ pub fn read(alloc: Global, text: &[u8]) -> Result<Roster, RosterFault>
 /// # Errors
 ///
 /// `NotToml`; `NoMemory` if out of memory.
-pub fn read_toml(alloc: Global, text: &[u8]) -> Result<Table, Why>
+pub fn read_toml(alloc: Global, text: &[u8]) -> Result<Table, RosterFaultKind>
     ensures ok { IfOk result (λ table. table_in text.now ≡ Some (table_view table)) }
     ensures refused { IfErr result
         (λ why. why ≢ NoMemory → (why ≡ NotToml) × (table_in text.now ≡ None)) }
@@ -78,12 +78,12 @@ pub fn read_toml(alloc: Global, text: &[u8]) -> Result<Table, Why>
 {
     let text = match str::from_utf8(text) {
         Ok(text) => text,
-        Err(_) => return Err(Why::NotToml),
+        Err(_) => return Err(RosterFaultKind::NotToml),
     };
     match toml::table_from_str(alloc, text) {
         Ok(table) => Ok(table),
-        Err(error) if error.is_memory() => Err(Why::NoMemory),
-        Err(_) => Err(Why::NotToml),
+        Err(error) if error.is_memory() => Err(RosterFaultKind::NoMemory),
+        Err(_) => Err(RosterFaultKind::NotToml),
     }
 }
 
@@ -101,22 +101,22 @@ fn read_table(table: &Table) -> Result<Roster, RosterFault>
 }
 
 /// The version of the format, or `BadShape` of the top level.
-pub(crate) fn read_version(table: &Table) -> Result<Version, Why>
+pub(crate) fn read_version(table: &Table) -> Result<Version, RosterFaultKind>
     ensures answer { result ≡ version_in (table_view table.now) }
     ensures memory { IfErr result (λ why. why ≢ NoMemory) }
 {
     if !knows_only(table, &["version", "node"]) {
-        return Err(Why::BadShape);
+        return Err(RosterFaultKind::BadShape);
     }
     match integer_at(table, "version") {
         Some(number) => Version::of_number(number),
-        None => Err(Why::BadShape),
+        None => Err(RosterFaultKind::BadShape),
     }
 }
 
 /// The members of `node`, 1 to 64, or `BadShape`, `Empty` or `TooMany`.
 #[tactic(auto, using(crate::proofs::Keys::items_len_view))]
-fn read_nodes(table: &Table) -> Result<&[Value], Why>
+fn read_nodes(table: &Table) -> Result<&[Value], RosterFaultKind>
     ensures answer { MatchResult result
         (λ values. nodes_in (table_view table.now) ≡ Ok (items_view values.now))
         (λ why. nodes_in (table_view table.now) ≡ Err why) }
@@ -126,14 +126,14 @@ fn read_nodes(table: &Table) -> Result<&[Value], Why>
 {
     let values = read_array(value_at(table, "node"))?;
     match values.len() {
-        0 => Err(Why::Empty),
+        0 => Err(RosterFaultKind::Empty),
         1..=MAX_NODES => Ok(values),
-        _ => Err(Why::TooMany),
+        _ => Err(RosterFaultKind::TooMany),
     }
 }
 
 /// The members of an array, and none where there is no value; or `BadShape`.
-fn read_array(value: Option<&Value>) -> Result<&[Value], Why>
+fn read_array(value: Option<&Value>) -> Result<&[Value], RosterFaultKind>
     ensures { MatchResult result
         (λ values. array_or_none (option_map (λ value. view value.now) value.entry)
         ≡ Ok (items_view values.now))
@@ -144,7 +144,7 @@ fn read_array(value: Option<&Value>) -> Result<&[Value], Why>
     };
     match value.as_array() {
         Some(values) => Ok(values.as_slice()),
-        None => Err(Why::BadShape),
+        None => Err(RosterFaultKind::BadShape),
     }
 }
 

@@ -5,7 +5,7 @@ ghost use Rattle.std.specs.List.{list_all, list_any};
 ghost use Rattle.std.specs.Str.{bytes_eq};
 ghost use Rattle.toml.specs.Data.{get_member};
 ghost use Rattle.toml.specs.View.{table_view, view};
-ghost use Rattle.roster.specs.declared.fault.Why.TheVariants.{BadShape};
+ghost use Rattle.roster.specs.declared.fault.RosterFaultKind.TheVariants.{BadShape};
 ghost use Rattle.roster.specs.Steps.{or_fault};
 ghost use Rattle.roster.specs.Toml.{integer_at, integer_or, knows_only, text_at};
 

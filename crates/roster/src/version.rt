@@ -2,7 +2,7 @@
 ghost use Rattle.std.specs.Prelude.{◌≡◌};
 ghost use Rattle.roster.specs.Format.{version_of};
 
-use crate::fault::Why;
+use crate::fault::RosterFaultKind;
 
 /// A version of the format. They differ in how a locomotive's variables are given.
 #[derive(Clone, Copy)]
@@ -15,13 +15,13 @@ pub(crate) enum Version {
 
 impl Version {
     /// The version of this number, or `BadShape`.
-    pub(crate) fn of_number(number: i64) -> Result<Version, Why>
+    pub(crate) fn of_number(number: i64) -> Result<Version, RosterFaultKind>
         ensures { result ≡ version_of number }
     {
         match number {
             1 => Ok(Version::One),
             2 => Ok(Version::Two),
-            _ => Err(Why::BadShape),
+            _ => Err(RosterFaultKind::BadShape),
         }
     }
 }

@@ -1,7 +1,7 @@
 -- What the definitions say of small texts, by computing.
 use Rattle.std.proofs.Common.{◌≡◌, [], ◌∷◌, ◌++◌, Ok, Err, codes, refl}
 use Rattle.show_text.specs.declared.command.Command.TheVariants.{Byte, Turns, Show}
-use Rattle.show_text.specs.declared.command.Why.TheVariants.{BadLine, BadWord, BadNode}
+use Rattle.show_text.specs.declared.command.ScriptFaultKind.TheVariants.{BadLine, BadWord, BadNode}
 use Rattle.text.specs.Words.{words_of}
 use Rattle.show_text.specs.Script.{bytes_of, nodes_of, commands_of, script_of, fault_at}
 

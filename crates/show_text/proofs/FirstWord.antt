@@ -1,8 +1,8 @@
 -- What a line says by its first word.
 use Rattle.std.proofs.Common.{◌≡◌, ℕ, true, false, List, [], ◌∷◌, drop, Ok, Err, codes, nat_lt, refl}
 use Rattle.std.specs.Prelude.{if◌then◌else◌}
-use Rattle.show_text.specs.declared.command.Why.{Why}
-use Rattle.show_text.specs.declared.command.Why.TheVariants.{BadLine, BadNumber, BadWord}
+use Rattle.show_text.specs.declared.command.ScriptFaultKind.{ScriptFaultKind}
+use Rattle.show_text.specs.declared.command.ScriptFaultKind.TheVariants.{BadLine, BadNumber, BadWord}
 use Rattle.show_text.specs.declared.command.Command.TheVariants.{Turns}
 use Rattle.text.specs.Words.{is_empty, is_first}
 use Rattle.show_text.specs.Script.{◌>>=◌, command_of, first_number_of, is_count, line_of, missed_of, some_bytes, turn_of}
@@ -30,7 +30,7 @@ pub ruleset missed_steps = (none_missed, other_than_miss)
 
 -- what follows the number of a line, or of turns
 
-pub line_faults : (lines : ℕ) (words : List (List ℕ)) (why : Why) → first_number_of words ≡ Err why → line_of lines words ≡ Err why
+pub line_faults : (lines : ℕ) (words : List (List ℕ)) (why : ScriptFaultKind) → first_number_of words ≡ Err why → line_of lines words ≡ Err why
 line_faults lines [] why h = cc
 line_faults lines (word ∷ words) why h = rw h refl
 
@@ -41,7 +41,7 @@ line_known lines n (word ∷ words) h = rw h refl
 
 pub ruleset line_steps = (line_faults, line_known)
 
-pub turns_fault : (nodes : ℕ) (words : List (List ℕ)) (why : Why) → first_number_of words ≡ Err why → turn_of nodes words ≡ Err why
+pub turns_fault : (nodes : ℕ) (words : List (List ℕ)) (why : ScriptFaultKind) → first_number_of words ≡ Err why → turn_of nodes words ≡ Err why
 turns_fault nodes [] why h = cc
 turns_fault nodes (word ∷ words) why h = rw h refl
 

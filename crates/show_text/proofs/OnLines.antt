@@ -7,8 +7,8 @@ use Rattle.std.specs.Str.{bytes_eq}
 use Rattle.std.specs.Str.Lines.{lines}
 use Rattle.show_text.specs.declared.command.Command.{Command}
 use Rattle.show_text.specs.declared.command.Command.TheVariants.{Byte, Turns, Show}
-use Rattle.show_text.specs.declared.command.Why.{Why}
-use Rattle.show_text.specs.declared.command.Why.TheVariants.{BadWord, BadNumber, BadLine, TooLong}
+use Rattle.show_text.specs.declared.command.ScriptFaultKind.{ScriptFaultKind}
+use Rattle.show_text.specs.declared.command.ScriptFaultKind.TheVariants.{BadWord, BadNumber, BadLine, TooLong}
 use Rattle.text.specs.Sequence.{followed_by}
 use Rattle.text.specs.Words.{words_of, is_empty}
 use Rattle.show_text.specs.Script.{◌>>=◌, number_of, below, is_count, count_of, byte_of, byte_command, bytes_of, some_bytes, line_of, missed_of, turn_of, show_of, after_word, command_of, line_commands, fault_at, at_line, commands_of, script_of, is_on_line, AreOnLines, is_counted, AreCounted}
@@ -29,12 +29,12 @@ followed p (Ok cs) (Ok ds) h k = list_all-append p cs ds ∙ and_from _ _ h k
 followed p (Ok cs) (Err e) h k = tt
 followed p (Err e) more h k = tt
 
-bound : {A : Type 0} (p : Command → Bool) (r : Result A Why) (f : A → Result (List Command) Why) → ((x : A) → r ≡ Ok x → Read p (f x)) → Read p (r >>= f)
+bound : {A : Type 0} (p : Command → Bool) (r : Result A ScriptFaultKind) (f : A → Result (List Command) ScriptFaultKind) → ((x : A) → r ≡ Ok x → Read p (f x)) → Read p (r >>= f)
 bound p (Ok x) f h = h x refl
 bound p (Err e) f h = tt
 
 -- a number that is tested passed the test
-tested : (test : ℕ → Bool) (n : ℕ) (why : Why) (r : Result ℕ Why) → (r >>= (λ m. if test m then Ok m else Err why)) ≡ Ok n → test n ≡ true
+tested : (test : ℕ → Bool) (n : ℕ) (why : ScriptFaultKind) (r : Result ℕ ScriptFaultKind) → (r >>= (λ m. if test m then Ok m else Err why)) ≡ Ok n → test n ≡ true
 tested test n why (Ok m) h = kept (test m) refl h
   where
     kept : (b : Bool) → test m ≡ b → (if b then Ok m else Err why) ≡ Ok n → test n ≡ true
@@ -44,7 +44,7 @@ tested test n why (Ok m) h = kept (test m) refl h
     kept false e k = cc
 tested test n why (Err e) h = cc
 
-below-small : (limit n : ℕ) (why : Why) (word : List ℕ) → below limit why word ≡ Ok n → n < limit
+below-small : (limit n : ℕ) (why : ScriptFaultKind) (word : List ℕ) → below limit why word ≡ Ok n → n < limit
 below-small limit n why word h = ltb-true n limit (tested (λ m. nat_lt m limit) n why (number_of word) h)
 
 one_byte : (count l : ℕ) (p : Command → Bool) (word : List ℕ) → AcceptsLine count p → l < count → Read p (byte_command l word)
@@ -85,7 +85,7 @@ one_line : (count nodes : ℕ) (p : Command → Bool) (text : List ℕ) → Acce
 one_line count nodes p text passes =
     cond_both (starts_with nat_eq text (codes "#")) (Ok []) (command_of count nodes (words_of text)) (Read p) (λ _. refl) (λ _. command count nodes p (words_of text) passes)
 
-at : (n : ℕ) (p : Command → Bool) (r : Result (List Command) Why) → Read p r → Read p (at_line n r)
+at : (n : ℕ) (p : Command → Bool) (r : Result (List Command) ScriptFaultKind) → Read p r → Read p (at_line n r)
 at n p (Ok cs) h = h
 at n p (Err e) h = tt
 

@@ -18,8 +18,8 @@ use Rattle.text.specs.Hex.{hex_char, both, digit_of, pair_of}
 use Rattle.show_text.specs.declared.command.Command.{Command}
 use Rattle.show_text.specs.declared.command.Command.TheVariants.{Byte, Turns, Show}
 use Rattle.show_text.specs.declared.command.ScriptFault.{ScriptFault}
-use Rattle.show_text.specs.declared.command.Why.{Why}
-use Rattle.show_text.specs.declared.command.Why.TheVariants.{BadNumber, BadNode, BadLine}
+use Rattle.show_text.specs.declared.command.ScriptFaultKind.{ScriptFaultKind}
+use Rattle.show_text.specs.declared.command.ScriptFaultKind.TheVariants.{BadNumber, BadNode, BadLine}
 use Rattle.show_text.specs.Script.{◌>>=◌, at_line, below, bytes_of, command_of, commands_of, count_of, is_count, line_commands, missed_of, nodes_of, or_fault, script_of, set_with, some_nodes, with_node}
 use Rattle.text.specs.Sequence.{followed_by}
 use Rattle.text.specs.Words.{is_blank, is_word, words_of}
@@ -165,7 +165,7 @@ decimal-back n h =
     let fits : n < 2 ^ 64 = omega arith in
     decimal_by (decimal n) n (decimal_nonempty n fits) (length-decimal-le 7 n (omega arith) (omega arith) fits) (decimal-digits n fits) (digits_value-decimal own n fits)
 
-below-back : (limit n : ℕ) (why : Why) → n < limit → n < 10000000 → below limit why (decimal n) ≡ Ok n
+below-back : (limit n : ℕ) (why : ScriptFaultKind) → n < limit → n < 10000000 → below limit why (decimal n) ≡ Ok n
 below-back limit n why low small =
     ap (λ (o : Option ℕ). or_fault o BadNumber >>= (λ m. if nat_lt m limit then Ok m else Err why)) (decimal-back n small)
     ∙ ap (λ (b : Bool). if b then Ok n else Err why) (lt-ltb n limit low)
@@ -265,8 +265,8 @@ unfolding nodes_of
 nodes-back nodes [] h k = refl
 nodes-back nodes (n ∷ ns) h k =
     let small : n < 10000000 = omega (arith, h, k.0) in
-    ap₂ (λ (one : Result (List ℕ) Why) (more : Result (List ℕ) Why). followed_by one more)
-    (ap (λ (read : Result ℕ Why). read >>= (λ i. Ok (i ∷ []))) (below-back nodes n BadNode k.0 small)) (nodes-back nodes ns h k.1)
+    ap₂ (λ (one : Result (List ℕ) ScriptFaultKind) (more : Result (List ℕ) ScriptFaultKind). followed_by one more)
+    (ap (λ (read : Result ℕ ScriptFaultKind). read >>= (λ i. Ok (i ∷ []))) (below-back nodes n BadNode k.0 small)) (nodes-back nodes ns h k.1)
 
 numbers-words : (ns : List ℕ) → number_words ns ≡ after (map decimal ns)
 numbers-words [] = refl
@@ -380,7 +380,7 @@ commands-back count nodes at (command ∷ commands) h k e =
     let p = and_parts (can_be_asked count nodes command) (list_all (can_be_asked count nodes) commands) e in
     let one = command-reads count nodes command h k p.0 in
     ap (commands_of count nodes at) (line-back (command_text nodes command) (script_text nodes commands) one.shown)
-    ∙ ap₂ (λ (read : Result (List Command) Why) (more : Result (List Command) ScriptFault). followed_by (at_line at read) more) one.says (commands-back count nodes (at + 1) commands h k p.1)
+    ∙ ap₂ (λ (read : Result (List Command) ScriptFaultKind) (more : Result (List Command) ScriptFault). followed_by (at_line at read) more) one.says (commands-back count nodes (at + 1) commands h k p.1)
 
 script-within : (count nodes : ℕ) (text : List ℕ) → length text ≤ 1048576 → script_of count nodes text ≡ commands_of count nodes 1 (lines text)
 script-within count nodes text h = rw (le-ltb 1048576 (length text) h) refl

@@ -5,8 +5,8 @@ use Rattle.std.proofs.lemmas.Bool.{lt-ltb}
 use Rattle.std.proofs.lemmas.Bool.Decides.{nat_tests}
 use Rattle.show_text.specs.declared.command.Command.{Command}
 use Rattle.show_text.specs.declared.command.Command.TheVariants.{Byte}
-use Rattle.show_text.specs.declared.command.Why.{Why}
-use Rattle.show_text.specs.declared.command.Why.TheVariants.{BadHex, NoMemory, TooLong}
+use Rattle.show_text.specs.declared.command.ScriptFaultKind.{ScriptFaultKind}
+use Rattle.show_text.specs.declared.command.ScriptFaultKind.TheVariants.{BadHex, NoMemory, TooLong}
 use Rattle.show_text.specs.declared.command.ScriptFault.{ScriptFault}
 use Rattle.text.specs.Sequence.{before, followed_by}
 use Rattle.show_text.proofs.Cuts.{few_lines}
@@ -16,14 +16,14 @@ use Rattle.text.specs.Words.{first_value, value_or_invalid}
 use Rattle.text.specs.declared.words.WordError.TheVariants.{Invalid, Missing}
 use Rattle.show_text.specs.Script.{◌>>=◌, or_fault, bytes_of, line_commands, at_line, fault_at, commands_of, script_of}
 
-pair_read : (line byte : ℕ) (old : List Command) (pair : Option ℕ) (more : Result (List Command) Why) → value_or_invalid pair ≡ Ok byte
+pair_read : (line byte : ℕ) (old : List Command) (pair : Option ℕ) (more : Result (List Command) ScriptFaultKind) → value_or_invalid pair ≡ Ok byte
     → before old (followed_by (or_fault pair BadHex >>= (λ b. Ok (Byte line b ∷ []))) more) ≡ before (old ++ Byte line byte ∷ []) more
 pair_read line byte old (Some b) more h =
     let same : b ≡ byte = cc in
     rw same (goes_on old (old ++ Byte line byte ∷ []) (Ok (Byte line byte ∷ [])) more refl)
 pair_read line byte old None more h = cc
 
-no_pair : (line : ℕ) (old : List Command) (pair : Option ℕ) (more : Result (List Command) Why) → value_or_invalid pair ≡ Err Invalid
+no_pair : (line : ℕ) (old : List Command) (pair : Option ℕ) (more : Result (List Command) ScriptFaultKind) → value_or_invalid pair ≡ Err Invalid
     → before old (followed_by (or_fault pair BadHex >>= (λ b. Ok (Byte line b ∷ []))) more) ≡ Err BadHex
 no_pair line old (Some b) more h = cc
 no_pair line old None more h = refl
@@ -57,11 +57,11 @@ fewer_words byte (word ∷ words) h = omega arith
 
 pub ruleset byte_steps = (byte_goes_on, byte_stops, bytes_end, fewer_words)
 
-at_line_ok : (n : ℕ) (old mid : List Command) (read : Result (List Command) Why) → before old read ≡ Ok mid → before old (at_line n read) ≡ Ok mid
+at_line_ok : (n : ℕ) (old mid : List Command) (read : Result (List Command) ScriptFaultKind) → before old read ≡ Ok mid → before old (at_line n read) ≡ Ok mid
 at_line_ok n old mid (Ok cs) h = cc
 at_line_ok n old mid (Err why) h = cc
 
-at_line_err : (n : ℕ) (old : List Command) (read : Result (List Command) Why) (why : Why) → before old read ≡ Err why → before old (at_line n read) ≡ Err (fault_at why n)
+at_line_err : (n : ℕ) (old : List Command) (read : Result (List Command) ScriptFaultKind) (why : ScriptFaultKind) → before old read ≡ Err why → before old (at_line n read) ≡ Err (fault_at why n)
 at_line_err n old (Ok cs) why h = cc
 at_line_err n old (Err e) why h = cc
 
@@ -75,7 +75,7 @@ line_goes_on lines nodes n old mid line more all total split read so_far =
     sym now ∙ so_far
 
 -- the first fault of the script is that of this line
-pub line_stops : (lines nodes n : ℕ) (old : List Command) (line : List ℕ) (more all : List (List ℕ)) (why : Why) (total : Result (List Command) ScriptFault)
+pub line_stops : (lines nodes n : ℕ) (old : List Command) (line : List ℕ) (more all : List (List ℕ)) (why : ScriptFaultKind) (total : Result (List Command) ScriptFault)
     → all ≡ line ∷ more → before old (line_commands lines nodes line) ≡ Err why → before old (commands_of lines nodes n all) ≡ total → total ≡ Err (fault_at why n)
 unfolding commands_of
 line_stops lines nodes n old line more all why total split fault so_far =

@@ -1,6 +1,6 @@
 //! The commands of a script, and the faults of a text that is not a script.
 ghost use Rattle.std.specs.Prelude.{◌≡◌};
-ghost use Rattle.show_text.specs.declared.command.Why.TheVariants.{NoMemory};
+ghost use Rattle.show_text.specs.declared.command.ScriptFaultKind.TheVariants.{NoMemory};
 
 use std::alloc::AllocFailed;
 
@@ -17,7 +17,7 @@ pub enum Command {
 
 /// What is wrong with a script.
 #[derive(Clone, Copy, Debug, PartialEq, Eq)]
-pub enum Why {
+pub enum ScriptFaultKind {
     /// An unknown first word, or a missing or superfluous word.
     BadWord,
     /// Not two hexadecimal digits.
@@ -37,14 +37,14 @@ pub enum Why {
 /// The first fault of a script, and its line, counted from 1. `TooLong` and `NoMemory` have line 0.
 #[derive(Clone, Copy, Debug, PartialEq, Eq)]
 pub struct ScriptFault {
-    pub why: Why,
+    pub why: ScriptFaultKind,
     pub line: u64,
 }
 
-impl<T: Drop> From<AllocFailed<T>> for Why {
+impl<T: Drop> From<AllocFailed<T>> for ScriptFaultKind {
     ghost from_gives = { λ _ why. why ≡ NoMemory };
 
-    fn from(_error: AllocFailed<T>) -> Why {
-        Why::NoMemory
+    fn from(_error: AllocFailed<T>) -> ScriptFaultKind {
+        ScriptFaultKind::NoMemory
     }
 }

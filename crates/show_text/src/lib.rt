@@ -20,7 +20,7 @@ mod nodes;
 mod script;
 mod traffic;
 
-pub use command::{Command, ScriptFault, Why};
+pub use command::{Command, ScriptFault, ScriptFaultKind};
 pub use laws::written_is_read;
 pub use line::Line;
 pub use messages::message_line;

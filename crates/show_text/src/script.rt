@@ -1,10 +1,10 @@
 //! Scripts, line by line.
 ghost use Rattle.std.specs.Prelude.{◌≡◌, ◌≢◌, ◌≤◌, ◌∷◌, [], IfOk, IfErr, Ok, Err, drop, if◌then◌else◌, nat_lt};
-ghost use Rattle.show_text.specs.declared.command.Why.TheVariants.{NoMemory};
+ghost use Rattle.show_text.specs.declared.command.ScriptFaultKind.TheVariants.{NoMemory};
 ghost use Rattle.text.specs.Words.{words_of};
 ghost use Rattle.show_text.specs.Script.{Adds, AreCounted, AreOnLines, below, first_number_of, is_count, bytes_of, some_bytes, line_of, nodes_of, set_with, missed_of, turn_of, show_of, command_of, line_commands, fault_at, script_of};
 
-use crate::command::{Command, ScriptFault, Why};
+use crate::command::{Command, ScriptFault, ScriptFaultKind};
 use std::alloc::Global;
 use text::{LONGEST_TEXT, Lines, WordError, Words, read_decimal};
 
@@ -12,17 +12,17 @@ use text::{LONGEST_TEXT, Lines, WordError, Words, read_decimal};
 const MOST_TURNS: u32 = 1_000_000;
 
 /// A number of turns.
-fn count(number: u32) -> Result<u32, Why>
-    ensures { result ≡ (if is_count number then Ok number else Err Why.BadNumber) }
+fn count(number: u32) -> Result<u32, ScriptFaultKind>
+    ensures { result ≡ (if is_count number then Ok number else Err ScriptFaultKind.BadNumber) }
 {
     match number {
         1..=MOST_TURNS => Ok(number),
-        _ => Err(Why::BadNumber),
+        _ => Err(ScriptFaultKind::BadNumber),
     }
 }
 
 /// Returns a number below `limit`, or the fault `why`.
-fn number_below(number: u32, limit: u8, why: Why) -> Result<u8, Why>
+fn number_below(number: u32, limit: u8, why: ScriptFaultKind) -> Result<u8, ScriptFaultKind>
     ensures { result ≡ (if nat_lt number limit then Ok number else Err why) }
 {
     if number < u32::from(limit) {
@@ -33,37 +33,41 @@ fn number_below(number: u32, limit: u8, why: Why) -> Result<u8, Why>
 }
 
 /// The number of a node.
-fn node_number(word: &[u8], nodes: u8) -> Result<u8, Why>
-    ensures { result ≡ below nodes Why.BadNode word.now }
+fn node_number(word: &[u8], nodes: u8) -> Result<u8, ScriptFaultKind>
+    ensures { result ≡ below nodes ScriptFaultKind.BadNode word.now }
 {
     let Some(number) = read_decimal(word) else {
-        return Err(Why::BadNumber);
+        return Err(ScriptFaultKind::BadNumber);
     };
-    number_below(number, nodes, Why::BadNode)
+    number_below(number, nodes, ScriptFaultKind::BadNode)
 }
 
 /// Takes the next word as a number.
-fn next_number(words: &mut Words<'_>) -> Result<u32, Why>
+fn next_number(words: &mut Words<'_>) -> Result<u32, ScriptFaultKind>
     ensures number { result ≡ first_number_of (words_of words.old.0.now) }
     ensures rest { words_of words.new.0.now ≡ drop 1 (words_of words.old.0.now) }
 {
     match words.next_number() {
         Ok(number) => Ok(number),
-        Err(WordError::Missing) => Err(Why::BadWord),
-        Err(WordError::Invalid) => Err(Why::BadNumber),
+        Err(WordError::Missing) => Err(ScriptFaultKind::BadWord),
+        Err(WordError::Invalid) => Err(ScriptFaultKind::BadNumber),
     }
 }
 
 /// Appends a command.
-fn push_command(commands: &mut Vec<Command>, command: Command) -> Result<(), Why>
+fn push_command(commands: &mut Vec<Command>, command: Command) -> Result<(), ScriptFaultKind>
     ensures { Adds commands.old.items commands.new.items result (Ok (command ∷ [])) }
 {
-    commands.push(command).map_err(Why::from)
+    commands.push(command).map_err(ScriptFaultKind::from)
 }
 
 /// The bytes that the words write.
 #[tactic(auto, using(crate::proofs::Reading::byte_steps), unfolding(crate::specs::Script::bytes_of))]
-fn push_bytes(line: u8, mut words: Words<'_>, commands: &mut Vec<Command>) -> Result<(), Why>
+fn push_bytes(
+    line: u8,
+    mut words: Words<'_>,
+    commands: &mut Vec<Command>,
+) -> Result<(), ScriptFaultKind>
     ensures { Adds commands.old.items commands.new.items result
         (bytes_of line (words_of words.entry.0.now)) }
 {
@@ -71,35 +75,43 @@ fn push_bytes(line: u8, mut words: Words<'_>, commands: &mut Vec<Command>) -> Re
         match words.next_byte() {
             Ok(byte) => push_command(commands, Command::Byte { line, byte })?,
             Err(WordError::Missing) => return Ok(()),
-            Err(WordError::Invalid) => return Err(Why::BadHex),
+            Err(WordError::Invalid) => return Err(ScriptFaultKind::BadHex),
         }
     }
 }
 
 /// The bytes of a line, one or more.
-fn push_some_bytes(line: u8, words: Words<'_>, commands: &mut Vec<Command>) -> Result<(), Why>
+fn push_some_bytes(
+    line: u8,
+    words: Words<'_>,
+    commands: &mut Vec<Command>,
+) -> Result<(), ScriptFaultKind>
     ensures { Adds commands.old.items commands.new.items result
         (some_bytes line (words_of words.entry.0.now)) }
 {
     if words.is_empty() {
-        return Err(Why::BadWord);
+        return Err(ScriptFaultKind::BadWord);
     }
     push_bytes(line, words, commands)
 }
 
 /// The number of a line, and its bytes.
 #[tactic(auto, using(crate::proofs::FirstWord::line_steps))]
-fn push_line(mut words: Words<'_>, lines: u8, commands: &mut Vec<Command>) -> Result<(), Why>
+fn push_line(
+    mut words: Words<'_>,
+    lines: u8,
+    commands: &mut Vec<Command>,
+) -> Result<(), ScriptFaultKind>
     ensures { Adds commands.old.items commands.new.items result
         (line_of lines (words_of words.entry.0.now)) }
 {
-    let line = number_below(next_number(&mut words)?, lines, Why::BadLine)?;
+    let line = number_below(next_number(&mut words)?, lines, ScriptFaultKind::BadLine)?;
     push_some_bytes(line, words, commands)
 }
 
 /// The set of the nodes that the words name.
 #[tactic(auto, using(crate::proofs::NodeSets::node_steps), unfolding(crate::specs::Script::nodes_of))]
-fn named_nodes(words: Words<'_>, nodes: u8) -> Result<u64, Why>
+fn named_nodes(words: Words<'_>, nodes: u8) -> Result<u64, ScriptFaultKind>
     requires { nodes ≤ 64 }
     ensures { result ≡ set_with 0 (nodes_of nodes (words_of words.entry.0.now)) }
 {
@@ -112,7 +124,7 @@ fn named_nodes(words: Words<'_>, nodes: u8) -> Result<u64, Why>
 
 /// Returns the set of the nodes named by the words after a number of turns.
 #[tactic(auto, using(crate::proofs::FirstWord::missed_steps))]
-fn missing_nodes(mut words: Words<'_>, nodes: u8) -> Result<u64, Why>
+fn missing_nodes(mut words: Words<'_>, nodes: u8) -> Result<u64, ScriptFaultKind>
     requires { nodes ≤ 64 }
     ensures { result ≡ missed_of nodes (words_of words.entry.0.now) }
 {
@@ -122,13 +134,17 @@ fn missing_nodes(mut words: Words<'_>, nodes: u8) -> Result<u64, Why>
     if words.take_word("miss") && !words.is_empty() {
         named_nodes(words, nodes)
     } else {
-        Err(Why::BadWord)
+        Err(ScriptFaultKind::BadWord)
     }
 }
 
 /// A number of turns, and the nodes that miss them.
 #[tactic(auto, using(crate::proofs::FirstWord::turn_steps))]
-fn push_turns(mut words: Words<'_>, nodes: u8, commands: &mut Vec<Command>) -> Result<(), Why>
+fn push_turns(
+    mut words: Words<'_>,
+    nodes: u8,
+    commands: &mut Vec<Command>,
+) -> Result<(), ScriptFaultKind>
     requires { nodes ≤ 64 }
     ensures { Adds commands.old.items commands.new.items result
         (turn_of nodes (words_of words.entry.0.now)) }
@@ -141,12 +157,12 @@ fn push_turns(mut words: Words<'_>, nodes: u8, commands: &mut Vec<Command>) -> R
 }
 
 /// Fails if there is a further word.
-fn push_show(words: Words<'_>, commands: &mut Vec<Command>) -> Result<(), Why>
+fn push_show(words: Words<'_>, commands: &mut Vec<Command>) -> Result<(), ScriptFaultKind>
     ensures { Adds commands.old.items commands.new.items result
         (show_of (words_of words.entry.0.now)) }
 {
     if !words.is_empty() {
-        return Err(Why::BadWord);
+        return Err(ScriptFaultKind::BadWord);
     }
     push_command(commands, Command::Show)
 }
@@ -158,7 +174,7 @@ fn push_line_commands(
     lines: u8,
     nodes: u8,
     commands: &mut Vec<Command>,
-) -> Result<(), Why>
+) -> Result<(), ScriptFaultKind>
     requires { nodes ≤ 64 }
     ensures { Adds commands.old.items commands.new.items result
         (line_commands lines nodes line.now) }
@@ -175,16 +191,16 @@ fn push_line_commands(
     } else if words.is_empty() {
         Ok(())
     } else {
-        Err(Why::BadWord)
+        Err(ScriptFaultKind::BadWord)
     }
 }
 
-fn fault_at(why: Why, line: u64) -> ScriptFault
+fn fault_at(why: ScriptFaultKind, line: u64) -> ScriptFault
     ensures known { why ≢ NoMemory → result ≡ fault_at why line }
     ensures memory { why ≡ NoMemory → result ≡ fault_at NoMemory 0 }
 {
     match why {
-        Why::NoMemory => ScriptFault { why, line: 0 },
+        ScriptFaultKind::NoMemory => ScriptFault { why, line: 0 },
         _ => ScriptFault { why, line },
     }
 }
@@ -215,7 +231,7 @@ pub fn read_script(
     ensures counts { IfOk result (λ v. AreCounted v.items) }
 {
     if text.len() > LONGEST_TEXT {
-        return Err(fault_at(Why::TooLong, 0));
+        return Err(fault_at(ScriptFaultKind::TooLong, 0));
     }
     let mut commands = Vec::new(alloc);
     let mut number = 0u64;

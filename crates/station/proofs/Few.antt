@@ -10,8 +10,8 @@ use Rattle.std.specs.Str.{bytes_eq}
 use Rattle.std.specs.Str.Lines.{lines, lines_of_parts}
 use Rattle.show_text.specs.declared.command.Command.{Command}
 use Rattle.show_text.specs.declared.command.Command.TheVariants.{Byte, Turns, Show}
-use Rattle.show_text.specs.declared.command.Why.{Why}
-use Rattle.show_text.specs.declared.command.Why.TheVariants.{BadWord, BadNumber, BadLine, TooLong}
+use Rattle.show_text.specs.declared.command.ScriptFaultKind.{ScriptFaultKind}
+use Rattle.show_text.specs.declared.command.ScriptFaultKind.TheVariants.{BadWord, BadNumber, BadLine, TooLong}
 use Rattle.text.specs.Sequence.{followed_by}
 use Rattle.text.specs.Words.{words_of, is_empty}
 use Rattle.show_text.specs.Script.{◌>>=◌, number_of, below, is_count, count_of, byte_of, byte_command, bytes_of, some_bytes, line_of, missed_of, turn_of, show_of, after_word, command_of, line_commands, fault_at, at_line, commands_of, script_of}
@@ -30,7 +30,7 @@ followed m n (Ok cs) (Ok ds) h k =
 followed m n (Ok cs) (Err e) h k = tt
 followed m n (Err e) more h k = tt
 
-bound : {A : Type 0} (m : ℕ) (r : Result A Why) (f : A → Result (List Command) Why) → ((x : A) → r ≡ Ok x → Few m (f x)) → Few m (r >>= f)
+bound : {A : Type 0} (m : ℕ) (r : Result A ScriptFaultKind) (f : A → Result (List Command) ScriptFaultKind) → ((x : A) → r ≡ Ok x → Few m (f x)) → Few m (r >>= f)
 bound m (Ok x) f h = h x refl
 bound m (Err e) f h = tt
 
@@ -39,7 +39,7 @@ more_than m n (Ok cs) le h = omega (arith, le, h)
 more_than m n (Err e) le h = tt
 
 -- a number of turns that passed its test
-counted : (n : ℕ) (r : Result ℕ Why) → (r >>= (λ m. if is_count m then Ok m else Err BadNumber)) ≡ Ok n → n ≤ 1000000
+counted : (n : ℕ) (r : Result ℕ ScriptFaultKind) → (r >>= (λ m. if is_count m then Ok m else Err BadNumber)) ≡ Ok n → n ≤ 1000000
 counted n (Ok m) h = kept (is_count m) refl h
   where
     kept : (b : Bool) → is_count m ≡ b → (if b then Ok m else Err BadNumber) ≡ Ok n → n ≤ 1000000
@@ -95,7 +95,7 @@ one_line : (count nodes : ℕ) (text : List ℕ) → Few 1000000 (line_commands 
 one_line count nodes text =
     cond_both (starts_with nat_eq text (codes "#")) (Ok []) (command_of count nodes (words_of text)) (Few 1000000) (λ _. no_more) (λ _. command count nodes (words_of text))
 
-at : (n : ℕ) (r : Result (List Command) Why) → Few 1000000 r → Few 1000000 (at_line n r)
+at : (n : ℕ) (r : Result (List Command) ScriptFaultKind) → Few 1000000 r → Few 1000000 (at_line n r)
 at n (Ok cs) h = h
 at n (Err e) h = tt
 

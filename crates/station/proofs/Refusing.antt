@@ -7,8 +7,8 @@ use Rattle.std.specs.Str.Lines.{lines}
 use Rattle.layout_core.specs.declared.world.World.{World}
 use Rattle.show_text.specs.declared.command.Command.{Command}
 use Rattle.show_text.specs.declared.command.ScriptFault.{ScriptFault}
-use Rattle.show_text.specs.declared.command.Why.{Why as ScriptWhy}
-use Rattle.show_text.specs.declared.command.Why.TheVariants as script
+use Rattle.show_text.specs.declared.command.ScriptFaultKind.{ScriptFaultKind as ScriptWhy}
+use Rattle.show_text.specs.declared.command.ScriptFaultKind.TheVariants as script
 use Rattle.show_text.specs.Script.{commands_of, fault_at, script_of}
 use Rattle.console.specs.declared.fault.RunFault.{RunFault}
 use Rattle.console.specs.declared.fault.RunFault.TheVariants.{NoMemory}

@@ -1,12 +1,12 @@
 -- The first fault of a roster, for C.
 use Rattle.std.specs.Prelude.{ℕ, ◌≡◌, List, Result, Ok, Err}
-use Rattle.roster.specs.declared.fault.Why.{Why}
-use Rattle.roster.specs.declared.fault.Why.TheVariants.{NotToml, BadShape, TooMany, BadName, BadCv, BadModule, Empty, NoMemory, BadCvList}
+use Rattle.roster.specs.declared.fault.RosterFaultKind.{RosterFaultKind}
+use Rattle.roster.specs.declared.fault.RosterFaultKind.TheVariants.{NotToml, BadShape, TooMany, BadName, BadCv, BadModule, Empty, NoMemory, BadCvList}
 use Rattle.roster.specs.declared.fault.RosterFault.{RosterFault}
 use Rattle.roster.specs.Entry.{Entry}
 
 -- its number, as `station` prints it
-abbrev pub number_of : Why → ℕ
+abbrev pub number_of : RosterFaultKind → ℕ
 number_of NotToml = 1
 number_of BadShape = 2
 number_of TooMany = 3

@@ -60,7 +60,7 @@ use layout_core::{DecoderState, Event, World};
 pub use message::Message;
 pub use plan::{station_elapse, station_plan, station_sensor, station_train_of};
 use railway::Railway;
-use roster::Why;
+use roster::RosterFaultKind;
 use run::run;
 use station_core::StationFault;
 use std::alloc::Global;
@@ -137,7 +137,7 @@ pub extern "C" fn station_read(
     }
     match roster::read(alloc, text) {
         Ok(roster) => make(alloc, layout, lines, roster.nodes(), None),
-        Err(fault) if fault.why == Why::NoMemory => NO_MEMORY,
+        Err(fault) if fault.why == RosterFaultKind::NoMemory => NO_MEMORY,
         Err(fault) => {
             *node = fault.node;
             BAD_DECODERS
@@ -158,7 +158,7 @@ pub extern "C" fn station_check(alloc: Global, text: &[u8], number: &mut u8, nod
 {
     match roster::read(alloc, text) {
         Ok(_) => MADE,
-        Err(fault) if fault.why == Why::NoMemory => NO_MEMORY,
+        Err(fault) if fault.why == RosterFaultKind::NoMemory => NO_MEMORY,
         Err(fault) => {
             *number = fault.why as u8;
             *node = fault.node;

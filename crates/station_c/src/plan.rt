@@ -10,7 +10,7 @@ use crate::train::{Train, told};
 use crate::{ALREADY_MADE, BAD_DECODERS, BAD_PLAN, NO_MEMORY, make};
 use railway::{Railway, SensorReport};
 use railway_plan::read_railway;
-use roster::{Roster, Why};
+use roster::{Roster, RosterFaultKind};
 use std::alloc::Global;
 
 /// Makes a layout with `lines` lines, the decoders of a roster, and the trains and sensors of a track
@@ -37,7 +37,7 @@ pub extern "C" fn station_plan(
     }
     match roster::read(alloc, roster) {
         Ok(roster) => make_planned(alloc, layout, lines, &roster, plan),
-        Err(fault) if fault.why == Why::NoMemory => NO_MEMORY,
+        Err(fault) if fault.why == RosterFaultKind::NoMemory => NO_MEMORY,
         Err(_) => BAD_DECODERS,
     }
 }
@@ -52,7 +52,7 @@ fn make_planned(alloc: Global, layout: &mut Layout, lines: u8, roster: &Roster, 
     match read_railway(alloc, plan, roster) {
         Ok(railway) => make(alloc, layout, lines, roster.nodes(), Some(railway)),
         Err(fault) => match fault.why {
-            railway_plan::Why::NoMemory => NO_MEMORY,
+            railway_plan::Reason::NoMemory => NO_MEMORY,
             _ => BAD_PLAN,
         },
     }

@@ -126,7 +126,7 @@ fn answer(rt: &HostRuntime, work: Work<'_>, pages: &mut Pages) -> Option<bool> {
         },
         Work::Roster => match roster::read(alloc, LAYOUT) {
             Ok(roster) => Some(roster.len() == 2),
-            Err(fault) => other_than(fault.why == roster::Why::NoMemory),
+            Err(fault) => other_than(fault.why == roster::RosterFaultKind::NoMemory),
         },
         Work::Hex => match read_hex(alloc, HEX) {
             Ok(bytes) => Some(bytes.as_slice() == BYTES.as_slice()),
@@ -134,7 +134,7 @@ fn answer(rt: &HostRuntime, work: Work<'_>, pages: &mut Pages) -> Option<bool> {
         },
         Work::Script => match read_script(alloc, SCRIPT, 1, 0) {
             Ok(commands) => Some(commands.as_slice() == [Command::Show; 9].as_slice()),
-            Err(fault) => other_than(fault.why == show_text::Why::NoMemory),
+            Err(fault) => other_than(fault.why == show_text::ScriptFaultKind::NoMemory),
         },
         Work::Words(words) => are_read(alloc, words),
         Work::Order(words) => match order(alloc, words) {

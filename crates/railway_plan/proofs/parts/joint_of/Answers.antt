@@ -1,5 +1,5 @@
 use Rattle.std.proofs.Common.{Err, refl}
-use Rattle.railway_plan.specs.declared.fault.Why.TheVariants.{BadKey}
+use Rattle.railway_plan.specs.declared.fault.Reason.TheVariants.{BadKey}
 use Rattle.railway_plan.specs.declared.key.Key.TheVariants.{Ends}
 use Rattle.railway_plan.specs.Entries.{names_of}
 use Rattle.railway_plan.specs.Format.{joint_of}

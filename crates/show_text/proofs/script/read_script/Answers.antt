@@ -1,7 +1,7 @@
 use Rattle.std.proofs.Common.{◌≡◌, ◌≢◌, ◌+◌, ap, arith, length, ◌∙◌}
 use Rattle.std.specs.Str.Lines.{lines}
 use Rattle.show_text.specs.declared.command.ScriptFault.{ScriptFault}
-use Rattle.show_text.specs.declared.command.Why.TheVariants.{NoMemory}
+use Rattle.show_text.specs.declared.command.ScriptFaultKind.TheVariants.{NoMemory}
 use Rattle.show_text.proofs.OnLines.{on_lines, are_counted}
 use Rattle.text.specs.declared.lines.Lines.{Lines}
 use Rattle.show_text.proofs.Reading.{counts_on, few_counted, line_goes_on, line_stops, reads_all, no_more, script_too_long, script_within}

@@ -1,6 +1,6 @@
 use Rattle.std.proofs.Common.{rules, ◌≡◌, ◌≢◌, ◌+◌, ◌<◌, ◌^◌, List, length, Err, sym, subst}
 use Rattle.show_text.specs.declared.command.Command.{Command}
-use Rattle.show_text.specs.declared.command.Why.TheVariants.{NoMemory}
+use Rattle.show_text.specs.declared.command.ScriptFaultKind.TheVariants.{NoMemory}
 use Rattle.show_text.specs.Script.{script_of}
 use Rattle.input_text.specs.Read.{ReadsMost}
 use Rattle.station.specs.Replayed.{events_in, turns_among}
