@@ -116,44 +116,18 @@ fn run_order<F: Filter, R: Files + AllocGlobal, I: Input, O: Output, E: Write>(
     ensures unwritten { O.failed output.new ≡ (result == 4) }
     ensures quiet { result ≡ 0 → faults.new ≡ faults.old }
 {
-    let flags = order.flags;
-    match order.file {
-        Some(file) => run_on_file(filter, rt, flags, file, output, faults),
-        None => execute(
-            filter,
-            rt.alloc(),
-            flags,
-            STANDARD_INPUT,
-            input,
-            output,
-            faults,
-        ),
-    }
-}
-
-/// Runs a filter on a file.
-fn run_on_file<F: Filter, R: Files + AllocGlobal, O: Output, E: Write>(
-    filter: &F,
-    rt: &R,
-    flags: FilterFlags,
-    file: FileName,
-    output: &mut O,
-    faults: &mut E,
-) -> u8
-    requires writes { O.failed output.old ≡ false }
-    ensures most { result ≤ 6 }
-    ensures done { result ≡ 0
-        → RunsOnFile (F.filters flags) (O.held output.old) (O.held output.new) }
-    ensures unwritten { O.failed output.new ≡ (result == 4) }
-    ensures quiet { result ≡ 0 → faults.new ≡ faults.old }
-{
+    let alloc = rt.alloc();
+    let FilterOrder { file, flags } = order;
+    let Some(file) = file else {
+        return execute(filter, alloc, flags, STANDARD_INPUT, input, output, faults);
+    };
     match open_file(rt, &file) {
-        Ok(mut input) => execute(
+        Ok(mut opened) => execute(
             filter,
-            rt.alloc(),
+            alloc,
             flags,
             file.as_str(),
-            &mut input,
+            &mut opened,
             output,
             faults,
         ),
