@@ -43,16 +43,18 @@ impl Ran {
     }
 }
 
-/// Runs a filter without flags on these streams, and returns the exit status.
+/// Standard input, standard output and standard error of a run.
+struct Streams<'a, I, O, E>(&'a mut I, &'a mut O, &'a mut E);
+
+/// Runs a filter without flags, and returns the exit status.
 fn run_on<F: Filter, I: Input, O: Output, E: Write>(
     filter: &F,
     alloc: Global,
-    input: &mut I,
-    output: &mut O,
-    faults: &mut E,
+    on: Streams<I, O, E>,
 ) -> u8
-    requires { (I.failed input.old ≡ false) × (O.failed output.old ≡ false) }
+    requires { (I.failed on.0.now ≡ false) × (O.failed on.1.now ≡ false) }
 {
+    let Streams(input, output, faults) = on;
     execute(
         filter,
         alloc,
@@ -92,7 +94,7 @@ pub fn run_to<F: Filter, R: Read, O: Write>(
     let mut faults = Vec::new(alloc);
     let mut input = TrackedReader::new(reader);
     let mut output = TrackedWriter::new(output);
-    let status = run_on(filter, alloc, &mut input, &mut output, &mut faults);
+    let status = run_on(filter, alloc, Streams(&mut input, &mut output, &mut faults));
     (status, faults)
 }
 
@@ -100,7 +102,11 @@ pub fn run_to<F: Filter, R: Read, O: Write>(
 pub fn run_unreported<F: Filter, R: Read>(filter: &F, alloc: Global, reader: &mut R) -> u8 {
     let mut output = TrackedWriter::new(Vec::new(alloc));
     let mut input = TrackedReader::new(reader);
-    run_on(filter, alloc, &mut input, &mut output, &mut Broken::new())
+    run_on(
+        filter,
+        alloc,
+        Streams(&mut input, &mut output, &mut Broken::new()),
+    )
 }
 
 /// Runs a filter on this text with more and more memory, from none, until a run does not report
@@ -128,7 +134,8 @@ pub fn run_as_room_grows<F: Filter>(
         let mut input = TrackedReader::new(text);
         scarcity.leave(refused as usize * STEP)?;
         let mut output = TrackedWriter::new(mem::replace(&mut ran.output, Vec::new(alloc)));
-        ran.status = run_on(filter, alloc, &mut input, &mut output, &mut ran.faults);
+        let on = Streams(&mut input, &mut output, &mut ran.faults);
+        ran.status = run_on(filter, alloc, on);
         ran.output = output.into_inner();
         scarcity.relax();
         if ran.status != 6 || !ran.output.is_empty() || ran.faults.as_slice() != no_memory {
