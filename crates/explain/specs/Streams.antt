@@ -3,6 +3,7 @@ use Rattle.std.specs.Prelude.{ℕ, Bool, ◌≡◌, ◌⊎◌, List, ◌++◌, O
 use Rattle.std.specs.Io.KnownBytes.{Appends, Consumes, IsAtEnd}
 use Rattle.filter.specs.declared.fault.FilterFault.{FilterFault}
 use Rattle.filter.specs.declared.fault.FilterFault.TheVariants.{NoMemory, Output, Unreadable}
+use Rattle.explain.specs.declared.explainer.Explainer.{Explainer}
 use Rattle.explain.specs.Explained.{explained}
 use Rattle.explain.specs.Unfinished.{to_write}
 
@@ -33,6 +34,11 @@ abbrev pub Follows : (old_input new_input old_output new_output : Option (List �
 Follows old_input new_input old_output new_output was_long was_held is_long held =
     (text : List ℕ) × (written : List ℕ) × Consumes old_input new_input text × Appends old_output new_output written
     × ((more : List ℕ) → to_write was_long was_held (text ++ more) ≡ written ++ to_write is_long held more)
+
+-- the same from one state of an explainer to a later one
+abbrev pub Continues : (old_input new_input old_output new_output : Option (List ℕ)) → (was is : Explainer) → Type 0
+Continues old_input new_input old_output new_output was is =
+    Follows old_input new_input old_output new_output was.is_long was.line.items is.is_long is.line.items
 
 -- After the bytes held some text was read, and a prefix of the output for it was written.
 abbrev pub Begins : (old_input new_input old_output new_output : Option (List ℕ)) → (is_long : Bool) → (held : List ℕ) → Type 0

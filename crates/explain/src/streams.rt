@@ -4,7 +4,7 @@ ghost use Rattle.std.specs.Io.KnownBytes.{Appends, IsAtEnd};
 ghost use Rattle.filter.specs.Fault.{is_unwritten};
 ghost use Rattle.input_text.specs.Write.{failed_after};
 ghost use Rattle.explain.specs.Ends.{has_unread, has_unread_yet, read_failed};
-ghost use Rattle.explain.specs.Streams.{AppendsFront, Begins, Explains, ExplainsFront, ExplainsWhole, FailsToExplain, Follows};
+ghost use Rattle.explain.specs.Streams.{AppendsFront, Begins, Continues, Explains, ExplainsFront, ExplainsWhole, FailsToExplain};
 
 use crate::end::End;
 use crate::explainer::Explainer;
@@ -78,9 +78,8 @@ fn push_all<I: Input, O: Output>(
     requires reads { I.failed input.old ≡ false }
     requires writes { O.failed output.old ≡ false }
     ensures followed { OnOk result
-        (Follows (I.left input.old) (I.left input.new) (O.held output.old) (O.held output.new)
-        explainer.old.is_long explainer.old.line.items explainer.new.is_long
-        explainer.new.line.items) }
+        (Continues (I.left input.old) (I.left input.new) (O.held output.old) (O.held output.new)
+        explainer.old explainer.new) }
     ensures end { IfOk result (λ end. end ≡ End.Whole → IsAtEnd (I.left input.new)) }
     ensures failed { I.failed input.new ≡ has_unread result }
     ensures begun { OnErr result
@@ -107,9 +106,8 @@ fn push_some<I: Input, O: Output>(
     requires reads { I.failed input.old ≡ false }
     requires writes { O.failed output.old ≡ false }
     ensures followed { OnOk result
-        (Follows (I.left input.old) (I.left input.new) (O.held output.old) (O.held output.new)
-        explainer.old.is_long explainer.old.line.items explainer.new.is_long
-        explainer.new.line.items) }
+        (Continues (I.left input.old) (I.left input.new) (O.held output.old) (O.held output.new)
+        explainer.old explainer.new) }
     ensures end { IfOk result (λ end. end ≡ Some End.Whole → IsAtEnd (I.left input.new)) }
     ensures failed { I.failed input.new ≡ has_unread_yet result }
     ensures gives { IfOk result
