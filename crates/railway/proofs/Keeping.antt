@@ -15,6 +15,7 @@ use Rattle.railway.specs.Places.{is_derailed, is_on_track, same_place, span, tur
 use Rattle.railway.specs.Railway.{is_train}
 use Rattle.railway.specs.Running.{is_within, run_by}
 use Rattle.railway.specs.Trains.{is_movable}
+use Rattle.railway.specs.Passing.{is_slow}
 use Rattle.railway.proofs.Joining.{same_end-self, same_end-true}
 use Rattle.railway.proofs.Turning.{onward-on_track, way-back, way_on-snoc}
 use Rattle.railway.proofs.Ways.{step-derailed, step-onward, way_on-suc}
@@ -185,7 +186,8 @@ marked-whole n t h = elim (cases_Bool (is_derailed t)) [
   | inr rails ↦ whole-from n (marked n t) (record { spanned = spanned-spans n t h rails; knows = refl })
 ]
 
-pub train-from : (n : Network) (t : TrainState) → nat_le 1 t.length ≡ true → is_within n.blocks t ≡ true → is_whole n t ≡ true → is_movable t ≡ true → is_train n t ≡ true
-train-from n t length within whole movable =
-    and_from (nat_le 1 t.length && is_within n.blocks t && is_whole n t) (is_movable t)
-    (and_from (nat_le 1 t.length && is_within n.blocks t) (is_whole n t) (and_from (nat_le 1 t.length) (is_within n.blocks t) length within) whole) movable
+pub train-from : (n : Network) (t : TrainState) → nat_le 1 t.length ≡ true → is_within n.blocks t ≡ true → is_whole n t ≡ true → is_movable t ≡ true → is_slow n.blocks t ≡ true → is_train n t ≡ true
+train-from n t length within whole movable slow =
+    and_from (nat_le 1 t.length && is_within n.blocks t && is_whole n t && is_movable t) (is_slow n.blocks t)
+    (and_from (nat_le 1 t.length && is_within n.blocks t && is_whole n t) (is_movable t)
+    (and_from (nat_le 1 t.length && is_within n.blocks t) (is_whole n t) (and_from (nat_le 1 t.length) (is_within n.blocks t) length within) whole) movable) slow

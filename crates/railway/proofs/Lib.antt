@@ -8,6 +8,7 @@ pub mod Planning
 pub mod Placing
 pub mod Runs
 pub mod Riding
+pub mod Slow
 pub mod Running
 pub mod Covering
 pub mod Returning
@@ -27,5 +28,7 @@ pub mod Observing
 pub mod Driven
 pub mod Premises
 pub mod Unseen
+pub mod Sensing
+pub mod Straight
 pub mod Speeds
 pub mod Reporting

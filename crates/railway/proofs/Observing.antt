@@ -9,7 +9,7 @@ use Rattle.railway.specs.declared.block.Block.{Block}
 use Rattle.ln_ops.specs.declared.sensor.SensorReport.{SensorReport}
 use Rattle.railway.specs.Blocks.{are_distinct, has_sensor, is_free, default_block}
 use Rattle.railway.specs.Turnouts.{same_bool}
-use Rattle.railway.specs.Reports.{changes, changes_from, full, full_from, level_of, level_after, onto, change_of}
+use Rattle.railway.specs.Reports.{changes, changes_from, changes_through, full, full_from, level_of, level_after, onto, change_of}
 use Rattle.railway.proofs.Facts.{or-left, or-right}
 
 pub level_after-append : (these those : List SensorReport) (sensor : ℕ) (level : Bool) → level_after (these ++ those) sensor level ≡ level_after those sensor (level_after these sensor level)
@@ -148,6 +148,25 @@ knows_changes blocks was is j sensor distinct h there =
     ∙ ap (λ (t : Bool). come false (was (0 + j)) (is (0 + j)) t) (changes-known true was is 0 blocks j sensor (was j) distinct h there)
     ∙ ap (λ (n : ℕ). come false (was n) (is n) (come true (was n) (is n) (was j))) here
     ∙ come-both (was j) (is j)
+
+come-through : (was sensed is : Bool) → (was ≡ true → sensed ≡ true) → (is ≡ true → sensed ≡ true) → come false sensed is (come true was sensed was) ≡ is
+come-through true true true h g = refl
+come-through true true false h g = refl
+come-through true false is h g = let no = h refl in cc
+come-through false true true h g = refl
+come-through false true false h g = refl
+come-through false false true h g = let no = g refl in cc
+come-through false false false h g = refl
+
+pub knows_through : (blocks : List Block) (was sensed is : ℕ → Bool) (j sensor : ℕ) → are_distinct blocks ≡ true → j < length blocks → (slice_index_or blocks j default_block).sensor ≡ Some sensor
+    → (was j ≡ true → sensed j ≡ true) → (is j ≡ true → sensed j ≡ true) → level_after (changes_through blocks was sensed is) sensor (was j) ≡ is j
+knows_through blocks was sensed is j sensor distinct h there first last =
+    let here : 0 + j ≡ j = omega arith in
+    level_after-append (changes_from true was sensed 0 blocks) (changes_from false sensed is 0 blocks) sensor (was j)
+    ∙ changes-known false sensed is 0 blocks j sensor _ distinct h there
+    ∙ ap (λ (t : Bool). come false (sensed (0 + j)) (is (0 + j)) t) (changes-known true was sensed 0 blocks j sensor (was j) distinct h there)
+    ∙ ap (λ (n : ℕ). come false (sensed n) (is n) (come true (was n) (sensed n) (was j))) here
+    ∙ come-through (was j) (sensed j) (is j) first last
 
 pub knows_full : (blocks : List Block) (is : ℕ → Bool) (j sensor : ℕ) (taken : Bool) → are_distinct blocks ≡ true → j < length blocks → (slice_index_or blocks j default_block).sensor ≡ Some sensor
     → level_after (full blocks is) sensor taken ≡ is j

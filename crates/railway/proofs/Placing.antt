@@ -21,6 +21,7 @@ use Rattle.railway.specs.Turnouts.{checked}
 use Rattle.railway.proofs.Pieces.{run_through-blocks}
 use Rattle.railway.proofs.Planning.{placed-train}
 use Rattle.railway.proofs.Riding.{movable-of}
+use Rattle.railway.proofs.Slow.{slow-of}
 use Rattle.railway.proofs.Running.{under-length}
 use Rattle.railway.proofs.Runs.{parts-of}
 use Rattle.railway.proofs.Throwing.{checked-same}
@@ -72,7 +73,8 @@ placed-railway r i position is h =
     let parts = and_parts (is_sound n) (list_all (is_train n) r.trains) is in
     let old : TrainState = slice_index_or r.trains i default_state in
     let was = parts-of n old (all-at (is_train n) r.trains i default_state parts.1 fits.train) in
-    let new = placed-train n (train_at old position) parts.0 fits.block was.size (movable-of old was.movable).rates fits.front fits.room in
+    let new = placed-train n (train_at old position) parts.0 fits.block was.size (movable-of old was.movable).rates fits.front fits.room
+    (slow-of n.blocks old was.slow).passes in
     and_from (is_sound n) (list_all (is_train n) (slice_set r.trains i (replaced n old position))) parts.0 (all-set (is_train n) r.trains i (replaced n old position) parts.1 new)
 
 -- so does an attempt to put one back

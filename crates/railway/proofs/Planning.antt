@@ -27,10 +27,12 @@ use Rattle.railway.specs.Faults.{block_behind, fault_of_block, fault_of_blocks, 
 use Rattle.railway.specs.Network.{Network, is_sound, marked, spans, turnouts_of, way_on}
 use Rattle.railway.specs.Placement.{back_of, front_at, front_of, has_front, is_front, is_in_block, is_room, place_or, span_of, state_of_train, state_to}
 use Rattle.railway.specs.Places.{is_on_track, turned_place}
-use Rattle.railway.specs.Railway.{is_railway, is_train, planned}
+use Rattle.railway.specs.Railway.{is_train}
 use Rattle.railway.specs.Turnouts.{network_of, state_of_turnout}
 use Rattle.railway.proofs.Keeping.{marked-whole, spans-spanned, train-from, way-spans}
 use Rattle.railway.proofs.Riding.{movable-from}
+use Rattle.railway.proofs.Slow.{slow-from}
+use Rattle.railway.specs.Passing.{passes_none}
 use Rattle.railway.proofs.Turning.{on_track-from, turned-turned, way-back, way-on_track}
 
 pub or-none : (one two : Option PlanFault) → option_or one two ≡ None → (one ≡ None) × (two ≡ None)
@@ -121,9 +123,13 @@ some-back : (found : Option Place) → is_some found ≡ true → (back : Place)
 some-back None h = cc
 some-back (Some back) h = (back, refl)
 
+-- a train of a plan passes none of the blocks unseen
+abbrev pub passes_train : List Block → Train → Bool
+passes_train blocks train = passes_none blocks train.top train.length
+
 pub placed-train : (n : Network) (train : Train) → IsTrue (is_sound n) → train.position.block < length n.blocks → nat_le 1 train.length ≡ true → is_momentum train.momentum ≡ true
-    → has_front n.blocks train.position ≡ true → is_room n train ≡ true → is_train n (state_of_train n train) ≡ true
-placed-train n train sound block size rates front room =
+    → has_front n.blocks train.position ≡ true → is_room n train ≡ true → passes_train n.blocks train ≡ true → is_train n (state_of_train n train) ≡ true
+placed-train n train sound block size rates front room passes =
     let start : Place = front_of train.position in
     let found = some-back (back_of n train) room in
     let back = found.0 in
@@ -135,7 +141,8 @@ placed-train n train sound block size rates front room =
     let spanned : spans n there ≡ true = way-spans n there way in
     let is : is_train n (marked n there) ≡ true =
     train-from n (marked n there) size (and_from (is_on_track n.blocks start) (is_on_track n.blocks back) on_start on_back) (marked-whole n there (spans-spanned n there spanned))
-    (movable-from (marked n there) (record { slow = omega arith; rates = rates })) in
+    (movable-from (marked n there) (record { slow = omega arith; rates = rates }))
+    (slow-from n.blocks (marked n there) (record { speed = omega arith; passes = passes })) in
     subst (λ (found : Option Place). is_train n (marked n (state_to train (place_or (turned_place start) found))) ≡ true) (sym found.1) is
 
 -- what is right of a train
@@ -162,13 +169,14 @@ no-fault specs n i train rest h =
       room = unless-none _ _ fifth.1;
     }
 
-pub sound_trains : (specs : List NodeSpec) (n : Network) (i : ℕ) (trains : List Train) → IsTrue (is_sound n) → fault_of_trains specs n i trains ≡ None → list_all (is_train n) (map (state_of_train n) trains) ≡ true
-sound_trains specs n i [] sound h = refl
-sound_trains specs n i (train ∷ trains) sound h =
+pub sound_trains : (specs : List NodeSpec) (n : Network) (i : ℕ) (trains : List Train) → IsTrue (is_sound n) → fault_of_trains specs n i trains ≡ None → list_all (passes_train n.blocks) trains ≡ true → list_all (is_train n) (map (state_of_train n) trains) ≡ true
+sound_trains specs n i [] sound h slow = refl
+sound_trains specs n i (train ∷ trains) sound h slow =
     let all = or-none (fault_of_train specs n i train trains) (fault_of_trains specs n (i + 1) trains) h in
     let is = no-fault specs n i train trains all.0 in
+    let passes = and_parts (passes_train n.blocks train) (list_all (passes_train n.blocks) trains) slow in
     and_from (is_train n (state_of_train n train)) (list_all (is_train n) (map (state_of_train n) trains))
-    (placed-train n train sound is.block is.size is.rates is.front is.room) (sound_trains specs n (i + 1) trains sound all.1)
+    (placed-train n train sound is.block is.size is.rates is.front is.room passes.0) (sound_trains specs n (i + 1) trains sound all.1 passes.1)
 
 -- so its trains have their fronts in blocks
 pub trains_in_blocks : (specs : List NodeSpec) (n : Network) (i : ℕ) (trains : List Train) → fault_of_trains specs n i trains ≡ None → list_all (is_in_block n.blocks) trains ≡ true
@@ -199,13 +207,6 @@ planned-sound specs plan h =
     let f : Bool = are_apart (ends_of plan.joints.items plan.turnouts.items) in
     let all : (a && b && d && e && f) ≡ true = and_from (a && b && d && e) f (and_from (a && b && d) e (and_from (a && b) d (and_from a b blocks.0 blocks.1) joints) turnouts) ends in
     subst (λ (ts : List Turnout). (a && b && d && list_all (is_turnout n) ts && are_apart (ends_of plan.joints.items ts)) ≡ true) (sym (turnouts-of-states specs plan.turnouts.items)) all
-
--- and the railway
-pub planned-railway : (specs : List NodeSpec) (plan : Plan) → fault_of_track specs plan ≡ None → fault_of_trains specs (network_of specs plan) 0 plan.trains.items ≡ None → IsTrue (is_railway (planned specs plan))
-planned-railway specs plan h g =
-    let n : Network = network_of specs plan in
-    let sound = planned-sound specs plan h in
-    and_from (is_sound n) (list_all (is_train n) (map (state_of_train n) plan.trains.items)) sound (sound_trains specs n 0 plan.trains.items sound g)
 
 pub both-none : (one two : Option PlanFault) → one ≡ None → two ≡ None → option_or one two ≡ None
 both-none one two h g = ap (λ (o : Option PlanFault). option_or o two) h ∙ g

@@ -64,7 +64,7 @@ is_line =
     let spanned : spans line put ≡ true = way-spans line put stands_on in
     let whole = marked-whole line put (spans-spanned line put spanned) in
     and_from (is_sound line) (list_all (is_train line) (train ∷ [])) refl
-    (and_from (is_train line train) true (train-from line train refl refl whole refl) refl)
+    (and_from (is_train line train) true (train-from line train refl refl whole refl refl) refl)
 
 power_is_on : PowerRuns ≡ Off → ⊥
 power_is_on h = cc

@@ -23,6 +23,7 @@ use Rattle.railway.specs.Railway.{is_train, run_in, run_under}
 use Rattle.railway.specs.Running.{can_run, is_within, ridden, run_by, run_for}
 use Rattle.railway.specs.Trains.{drive_of, is_forward, is_movable, momentum_at, momentum_of, running_in, speed_at, speed_of}
 use Rattle.railway.proofs.Keeping.{Kept, marked-whole, train-from, whole-spanned}
+use Rattle.railway.proofs.Slow.{ridden-slow, still-slow}
 use Rattle.railway.proofs.Riding.{Runs, Same, ridden-rails, ridden-runs, ridden-same, ridden-velocity, same-self, still-movable, with_velocity}
 use Rattle.railway.proofs.Runs.{Placed, by-derails, by-reaches, by-stops, parts-of}
 
@@ -127,14 +128,15 @@ in-train n micros nodes t is h = elim (cases_Bool (is_derailed t)) [
       let runs = ridden-runs n (asked_of nodes t) micros t is (asked-slow t.top (running_in nodes t.decoder)) start in
       let size : nat_le 1 there.length ≡ true = ap (λ (l : ℕ). nat_le 1 l) (ridden-same n (asked_of nodes t) micros t).length ∙ parts.size in
       subst (λ (u : TrainState). is_train n u ≡ true) (sym (in-itself n micros nodes t rails))
-      (train-from n (marked n there) size runs.kept.within (marked-whole n there runs.kept.spanned) runs.movable)
+      (train-from n (marked n there) size runs.kept.within (marked-whole n there runs.kept.spanned) runs.movable
+      (ridden-slow n nodes micros n.blocks t (ridden-same n (asked_of nodes t) micros t) parts.slow))
 ]
 
 -- without power it stands
 still-train : (n : Network) (t : TrainState) → is_train n t ≡ true → is_train n (still t) ≡ true
 still-train n t h =
     let parts = parts-of n t h in
-    train-from n (still t) parts.size (and_from _ _ parts.front parts.rear) parts.whole (still-movable t parts.movable)
+    train-from n (still t) parts.size (and_from _ _ parts.front parts.rear) parts.whole (still-movable t parts.movable) (still-slow n.blocks t parts.slow)
 
 pub under-train : (p : Power) (n : Network) (micros : ℕ) (nodes : List Node) (t : TrainState) → IsTrue (is_sound n) → is_train n t ≡ true → is_train n (run_under p n micros nodes t) ≡ true
 under-train Off n micros nodes t is h = still-train n t h
@@ -164,6 +166,12 @@ all-run n (t ∷ ts) h =
     let all = and_parts (is_train n t) (list_all (is_train n) ts) h in
     let parts = parts-of n t all.0 in
     and_from (can_run n.blocks t) (list_all (can_run n.blocks) ts) (and_from (is_within n.blocks t) (is_movable t) (and_from _ _ parts.front parts.rear) parts.movable) (all-run n ts all.1)
+
+pub all-movable : (n : Network) (ts : List TrainState) → list_all (is_train n) ts ≡ true → list_all is_movable ts ≡ true
+all-movable n [] h = refl
+all-movable n (t ∷ ts) h =
+    let all = and_parts (is_train n t) (list_all (is_train n) ts) h in
+    and_from (is_movable t) (list_all is_movable ts) (parts-of n t all.0).movable (all-movable n ts all.1)
 
 -- A train on the rails.
 

@@ -14,6 +14,7 @@ use Rattle.railway.specs.Places.{end_ahead, is_derailed, is_on_track, leading_en
 use Rattle.railway.specs.Railway.{is_train}
 use Rattle.railway.specs.Running.{is_within, run_by}
 use Rattle.railway.specs.Trains.{is_movable}
+use Rattle.railway.specs.Passing.{is_slow}
 use Rattle.railway.proofs.Keeping.{is_spanned, spanned-spans, spans-way, step-spans, turned-spans, way-spans, whole-of}
 use Rattle.railway.proofs.Turning.{onward-cases, way-back, way_on-snoc}
 use Rattle.railway.proofs.Ways.{run_on-add, run_on-derailed, run_on-stands, run_on-step, step-onward, way_on-ends, way_on-suc}
@@ -27,6 +28,7 @@ pub record Parts (n : Network) (t : TrainState) : Type 0 where
   pub rear : is_on_track n.blocks t.rear ≡ true
   pub whole : is_whole n t ≡ true
   pub movable : is_movable t ≡ true
+  pub slow : is_slow n.blocks t ≡ true
 
 -- where a train is, whatever its velocity
 pub record Placed (n : Network) (t : TrainState) : Type 0 where
@@ -39,11 +41,12 @@ within-parts n t h = and_parts (is_on_track n.blocks t.front) (is_on_track n.blo
 
 pub parts-of : (n : Network) (t : TrainState) → is_train n t ≡ true → Parts n t
 parts-of n t h =
-    let all = and_parts (nat_le 1 t.length && is_within n.blocks t && is_whole n t) (is_movable t) h in
+    let whole = and_parts (nat_le 1 t.length && is_within n.blocks t && is_whole n t && is_movable t) (is_slow n.blocks t) h in
+    let all = and_parts (nat_le 1 t.length && is_within n.blocks t && is_whole n t) (is_movable t) whole.0 in
     let rails = and_parts (nat_le 1 t.length && is_within n.blocks t) (is_whole n t) all.0 in
     let first = and_parts (nat_le 1 t.length) (is_within n.blocks t) rails.0 in
     let ends = within-parts n t first.1 in
-    record { size = first.0; front = ends.0; rear = ends.1; whole = rails.1; movable = all.1 }
+    record { size = first.0; front = ends.0; rear = ends.1; whole = rails.1; movable = all.1; slow = whole.1 }
 
 pub on-track : (blocks : List Block) (p : Place) → is_on_track blocks p ≡ true → IsOnTrack blocks p
 on-track blocks p h =

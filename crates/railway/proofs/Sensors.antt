@@ -7,7 +7,7 @@ use Rattle.ln_ops.specs.declared.sensor.SensorReport.{SensorReport}
 use Rattle.railway.specs.declared.block.Block.{Block}
 use Rattle.railway.specs.Blocks.{is_block, is_block_sensor, is_length}
 use Rattle.railway.specs.Turnouts.{same_bool}
-use Rattle.railway.specs.Reports.{changes, changes_from, full, full_from, level_of, is_report, onto, change_of}
+use Rattle.railway.specs.Reports.{changes, changes_from, changes_through, full, full_from, level_of, is_report, onto, change_of}
 
 abbrev IsLegal : Option SensorReport → Type 0
 IsLegal None = Unit {0}
@@ -47,6 +47,10 @@ legal-append (report ∷ these) those h g =
 pub legal_changes : (blocks : List Block) (was is : ℕ → Bool) → list_all is_block blocks ≡ true → list_all is_report (changes blocks was is) ≡ true
 legal_changes blocks was is h =
     legal-append (changes_from true was is 0 blocks) (changes_from false was is 0 blocks) (legal_from true was is 0 blocks h) (legal_from false was is 0 blocks h)
+
+pub legal_through : (blocks : List Block) (was sensed is : ℕ → Bool) → list_all is_block blocks ≡ true → list_all is_report (changes_through blocks was sensed is) ≡ true
+legal_through blocks was sensed is h =
+    legal-append (changes_from true was sensed 0 blocks) (changes_from false sensed is 0 blocks) (legal_from true was sensed 0 blocks h) (legal_from false sensed is 0 blocks h)
 
 legal_full_from : (is : ℕ → Bool) (i : ℕ) (blocks : List Block) → list_all is_block blocks ≡ true → list_all is_report (full_from is i blocks) ≡ true
 legal_full_from is i [] h = refl

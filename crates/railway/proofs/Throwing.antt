@@ -26,6 +26,7 @@ use Rattle.railway.proofs.Joining.{across-none}
 use Rattle.railway.proofs.Keeping.{derailed-whole, spans-way, train-from, way-spans, whole-from, whole-of}
 use Rattle.railway.proofs.Leading.{partner-append}
 use Rattle.railway.proofs.Riding.{Same, same-self, still-movable}
+use Rattle.railway.proofs.Slow.{still-slow}
 use Rattle.railway.proofs.Runs.{parts-of}
 use Rattle.railway.proofs.Turning.{onward-cases, onward-end}
 use Rattle.railway.proofs.Ways.{further-suc, further-zero, left_to-moved, onward-within, way_on-ends, way_on-suc}
@@ -315,12 +316,12 @@ train-changed f is c n t h none =
     let parts = parts-of n t h in
     let within : is_within m.blocks t ≡ true = and_from _ _ parts.front parts.rear in
     elim (cases_Bool (is_derailed t)) [
-      | inl derailed ↦ train-from m t parts.size within (derailed-whole m t derailed) parts.movable
+      | inl derailed ↦ train-from m t parts.size within (derailed-whole m t derailed) parts.movable parts.slow
       | inr rails ↦
           let whole = whole-of n t parts.whole rails in
           let spanned = way-spans m t (way-changed f is c n t.rear (span t) (none rails) ∙ spans-way n t whole.spanned) in
           let knows = whole.knows ∙ sym (covered-changed f is c n t.rear (span t) no_blocks (none rails)) in
-          train-from m t parts.size within (whole-from m t (record { spanned = spanned; knows = knows })) parts.movable
+          train-from m t parts.size within (whole-from m t (record { spanned = spanned; knows = knows })) parts.movable parts.slow
     ]
 
 -- Turnouts that their decoders move.
@@ -388,9 +389,9 @@ checked-train nodes n t h =
     let m : Network = laid nodes n in
     let parts = parts-of n t h in
     let within : is_within m.blocks t ≡ true = and_from _ _ parts.front parts.rear in
-    checked-by (λ (u : TrainState). is_train m u ≡ true) nodes n t (λ derailed. train-from m t parts.size within (derailed-whole m t derailed) parts.movable)
+    checked-by (λ (u : TrainState). is_train m u ≡ true) nodes n t (λ derailed. train-from m t parts.size within (derailed-whole m t derailed) parts.movable parts.slow)
     (λ rails none. train-changed (observed nodes) (is_moved nodes) (laid-changes nodes) n t h (λ _. none))
-    (λ p rails some. train-from m (off_rails n p t) parts.size within (derailed-whole m (off_rails n p t) refl) (still-movable t parts.movable))
+    (λ p rails some. train-from m (off_rails n p t) parts.size within (derailed-whole m (off_rails n p t) refl) (still-movable t parts.movable) (still-slow n.blocks t parts.slow))
 
 pub all-checked : (nodes : List Node) (n : Network) (ts : List TrainState) → list_all (is_train n) ts ≡ true → list_all (is_train (laid nodes n)) (map (checked nodes n) ts) ≡ true
 all-checked nodes n [] h = refl

@@ -1,6 +1,6 @@
 -- Nothing passes unseen.
 use Rattle.std.proofs.Common.{◌≡◌, ◌⊎◌, ℕ, zero, suc, ◌+◌, ◌-◌, ◌*◌, ◌<◌, ◌≤◌, ◌&&◌, Bool, true, false, inl, inr, List, Option, Some, None, length, refl, ap, sym, subst, ◌∙◌, arith, ◌≢◌}
-use Rattle.std.proofs.lemmas.Bool.{and_from, and_parts, cases_Bool, leb-true, lt-ltb, ltb-true}
+use Rattle.std.proofs.lemmas.Bool.{and_from, and_parts, cases_Bool, lt-ltb, ltb-true}
 use Rattle.std.proofs.lemmas.Bool.Decides.{nat_tests}
 use Rattle.std.proofs.lemmas.List.{get_or-map, get_or-replicate, length-map}
 use Rattle.std.specs.List.{list_all, slice_index_or}
@@ -21,21 +21,20 @@ use Rattle.railway.specs.declared.train.TrainState.{TrainState}
 use Rattle.railway.specs.Blocks.{length_of, no_blocks, other}
 use Rattle.railway.specs.Laws.{IsOnWay, asked_of, runs_only, velocity_of, way_of}
 use Rattle.railway.specs.Network.{Network, is_sound, marked, off_rails, onward, run_on, spans, step, under, way_on, first_at}
-use Rattle.railway.specs.Passing.{GoesShort}
 use Rattle.railway.specs.Places.{further, is_derailed, is_on_track, left_to, span, to_end, turned, turned_place, moved_to}
-use Rattle.railway.specs.Railway.{RailwayState, elapsed, is_railway, is_train, laid_in, run_in, run_under, advanced_under, run_through, ran_in}
+use Rattle.railway.specs.Railway.{RailwayState, is_railway, is_train, run_in, run_under, advanced_under, run_through, ran_in}
 use Rattle.railway.specs.Reports.{occupies}
 use Rattle.railway.specs.Running.{run_by, is_within}
-use Rattle.railway.specs.Turnouts.{checked, advanced, moved_on}
+use Rattle.railway.specs.Turnouts.{advanced, moved_on}
 use Rattle.railway.proofs.Covering.{covered-way, way-covered}
 use Rattle.railway.proofs.Facts.{none-some, some-same}
 use Rattle.railway.proofs.Keeping.{Kept, run_by-kept, spans-spanned, spans-way, step-spans, turned-spans, way-spans, whole-of, run-within, turned-within}
-use Rattle.railway.proofs.Pieces.{laid-kept, ran-kept}
+use Rattle.railway.proofs.Pieces.{ran-kept}
 use Rattle.railway.proofs.Placing.{all-at}
 use Rattle.railway.proofs.Riding.{with_velocity}
 use Rattle.railway.proofs.Running.{in-derailed, in-one-way, in-same, in-velocity, same-drive, under-train}
 use Rattle.railway.proofs.Runs.{on-track, parts-of, rear-goes, within-parts}
-use Rattle.railway.proofs.Throwing.{checked-by, checked-under, all-none, end_of_any, none-leaves, way-changed}
+use Rattle.railway.proofs.Throwing.{all-none, end_of_any, none-leaves, way-changed}
 use Rattle.railway.proofs.Leading.{advanced-sound}
 use Rattle.railway.proofs.Turning.{turned-turned, way-back, way-on_track}
 use Rattle.railway.proofs.Ways.{run_on-derailed, run_on-stands, step-onward, way_on-add, way_on-suc, way_on-within}
@@ -208,7 +207,7 @@ same-span t u h = ap (λ (l : ℕ). l * 1000000000000 - 1) h
 
 -- A part of a time, and the rest of it.
 
-goes_only-add : (f : Bool) (d : Drive) (a b : ℕ) (v : Velocity) → goes_only f d (a + b) v ≡ true → (goes_only f d a v ≡ true) × (goes_only f d b (velocity_after d a v) ≡ true)
+pub goes_only-add : (f : Bool) (d : Drive) (a b : ℕ) (v : Velocity) → goes_only f d (a + b) v ≡ true → (goes_only f d a v ≡ true) × (goes_only f d b (velocity_after d a v) ≡ true)
 unfolding goes_only velocity_after
 goes_only-add f d zero b v h = let e : zero + b ≡ b = omega arith in (refl, sym (ap (λ (k : ℕ). goes_only f d k v) e) ∙ h)
 goes_only-add f d (suc a) b v h =
@@ -533,13 +532,7 @@ still-run (suc k) nodes r i none within =
     still-run k nodes (ran_in Off 1 nodes r) i none (omega (arith, within, length-map r.trains (run_under Off r.network 1 nodes)))
     ∙ ap (λ (t : TrainState). t.under) (get_or-map (run_under Off r.network 1 nodes) r.trains i none none within)
 
--- one that is not derailed is as it was
-checked-rails : (nodes : List Node) (n : Network) (t : TrainState) → is_derailed (checked nodes n t) ≡ false → checked nodes n t ≡ t
-checked-rails nodes n t = checked-by (λ (u : TrainState). is_derailed u ≡ false → u ≡ t) nodes n t (λ _ _. refl) (λ _ _ _. refl) (λ p rails some off. absurd (derails off)) where
-  derails : true ≡ false → ⊥
-  derails e = cc
-
-run-seen : WaysAdd → (p : Power) (nodes : List Node) (forward : Bool) (i block : ℕ) (none : TrainState) (j k : ℕ) (r : RailwayState) → is_railway r ≡ true → i < length r.trains
+pub run-seen : WaysAdd → (p : Power) (nodes : List Node) (forward : Bool) (i block : ℕ) (none : TrainState) (j k : ℕ) (r : RailwayState) → is_railway r ≡ true → i < length r.trains
     → (is_derailed (slice_index_or r.trains i none) ≡ false → GoesAhead nodes forward (j + k) (span (slice_index_or r.trains i none) + length_of r.network.blocks block) (slice_index_or r.trains i none))
     → IsTrue (occupies block (slice_index_or (run_through p j nodes r).trains i none))
     → IsTrue (occupies block (slice_index_or r.trains i none)) ⊎ IsTrue (occupies block (slice_index_or (run_through p (j + k) nodes r).trains i none))
@@ -547,29 +540,3 @@ run-seen ways Off nodes forward i block none j k r h within short here =
     inl (same-under (slice_index_or r.trains i none) (slice_index_or (run_through Off j nodes r).trains i none) block (still-run j nodes r i none within) here)
 run-seen ways PowerOn nodes forward i block none j k r h within short here = at-ends ways PowerOn (λ e. cc) nodes forward i block none j k r h within short here
 run-seen ways Paused nodes forward i block none j k r h within short here = at-ends ways Paused (λ e. cc) nodes forward i block none j k r h within short here
-
-pub seen-always : WaysAdd → (r : RailwayState) (micros moment : ℕ) (power : Power) (nodes : List Node) (i block : ℕ) (none : TrainState) → IsTrue (is_railway r) → i < length r.trains → moment ≤ micros
-    → GoesShort r.network.blocks nodes micros block (slice_index_or r.trains i none)
-    → IsTrue (occupies block (slice_index_or (elapsed r moment power nodes).trains i none))
-    → IsTrue (occupies block (slice_index_or r.trains i none)) ⊎ IsTrue (occupies block (slice_index_or (elapsed r micros power nodes).trains i none))
-seen-always ways r micros moment power nodes i block none railway within less short here =
-    let t : TrainState = slice_index_or r.trains i none in
-    let start : RailwayState = laid_in nodes r in
-    let now : TrainState = checked nodes r.network t in
-    let parts = and_parts (is_sound r.network) (list_all (is_train r.network) r.trains) railway in
-    let train : is_train r.network t ≡ true = all-at (is_train r.network) r.trains i none parts.1 within in
-    let size : 0 < t.length = leb-true 1 t.length (parts-of r.network t train).size in
-    let there : slice_index_or start.trains i none ≡ now = get_or-map (checked nodes r.network) r.trains i none none within in
-    let count : i < length start.trains = omega (arith, within, length-map r.trains (checked nodes r.network)) in
-    let sum : moment + (micros - moment) ≡ micros = omega (arith, less) in
-    let far : way_of nodes micros t ≤ span t + length_of r.network.blocks block = omega (arith, short.short, size) in
-    let whole : GoesAhead nodes short.forward micros (span t + length_of r.network.blocks block) t = record { one_way = short.one_way; short = far } in
-    let goes : is_derailed (slice_index_or start.trains i none) ≡ false → GoesAhead nodes short.forward (moment + (micros - moment)) (span (slice_index_or start.trains i none) + length_of start.network.blocks block) (slice_index_or start.trains i none) =
-    λ rails.
-    let same : slice_index_or start.trains i none ≡ t = there ∙ checked-rails nodes r.network t (sym (ap (λ (w : TrainState). is_derailed w) there) ∙ rails) in
-    subst (λ (w : TrainState). GoesAhead nodes short.forward (moment + (micros - moment)) (span w + length_of r.network.blocks block) w) (sym same)
-    (subst (λ (k : ℕ). GoesAhead nodes short.forward k (span t + length_of r.network.blocks block) t) (sym sum) whole) in
-    elim (run-seen ways power nodes short.forward i block none moment (micros - moment) start (laid-kept nodes r railway) count goes here) [
-      | inl before ↦ inl (same-under t now block (checked-under nodes r.network t) (subst (λ (w : TrainState). IsTrue (occupies block w)) there before))
-      | inr behind ↦ inr (subst (λ (k : ℕ). IsTrue (occupies block (slice_index_or (run_through power k nodes start).trains i none))) sum behind)
-    ]

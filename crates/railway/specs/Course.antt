@@ -8,7 +8,7 @@ use Rattle.railway.specs.declared.train.Position.{Position}
 use Rattle.railway.specs.declared.turnout_report.TurnoutReport.{TurnoutReport}
 use Rattle.railway.specs.Failures.{block_with, none_failing, with_failing, with_sensor}
 use Rattle.railway.specs.Feedback.{movements}
-use Rattle.railway.specs.Railway.{RailwayState, elapsed, is_sensed, place_fault, placed_in}
+use Rattle.railway.specs.Railway.{RailwayState, elapsed, is_sensed, place_fault, placed_in, reports_in}
 use Rattle.railway.specs.Reports.{changes}
 
 -- so many microseconds pass in which the decoders do this, with power or without; somebody tries to
@@ -47,8 +47,9 @@ after_all railway [] = railway
 after_all railway (happening ∷ happenings) = after_all (after railway happening) happenings
 
 abbrev pub reports_of : RailwayState → Happening → List SensorReport
-reports_of railway happening =
-    changes railway.network.blocks (is_sensed railway) (is_sensed (after railway happening))
+reports_of railway (Elapses micros power nodes) = reports_in railway micros power nodes
+reports_of railway other =
+    changes railway.network.blocks (is_sensed railway) (is_sensed (after railway other))
 
 -- what turnouts report of it
 abbrev pub movements_of : RailwayState → Happening → List TurnoutReport

@@ -1,5 +1,5 @@
 -- What the laws of a railway speak of.
-use Rattle.std.specs.Prelude.{ℕ, ◌≡◌, ◌≢◌, ◌⊎◌, ◌*◌, ◌<◌, ◌≤◌, ◌==◌, ◌&&◌, Bool, true, false, not, List, [], ◌∷◌, length, Some, IsTrue}
+use Rattle.std.specs.Prelude.{ℕ, ◌≡◌, ◌≢◌, ◌⊎◌, ◌*◌, ◌<◌, ◌≤◌, ◌==◌, ◌&&◌, ◌||◌, Bool, true, false, List, [], ◌∷◌, length, Some, IsTrue}
 use Rattle.std.specs.List.{list_any, slice_index_or}
 use Rattle.layout_core.specs.declared.node.Node.{Node}
 use Rattle.refresh_ring.specs.declared.pick.Power.{Power}
@@ -20,7 +20,7 @@ use Rattle.railway.specs.Course.Happening.{Elapses, FailuresEnd, Places, SensorF
 use Rattle.railway.specs.Feedback.{report_at}
 use Rattle.railway.specs.Network.{Network, is_end_of, is_moving, lies, way_on}
 use Rattle.railway.specs.Places.{is_derailed, leading_end, span, turned_place}
-use Rattle.railway.specs.Railway.{run_under}
+use Rattle.railway.specs.Railway.{RailwayState, elapsed, is_sensed, run_under}
 use Rattle.railway.specs.Reports.{occupies}
 use Rattle.railway.specs.Trains.{drive_of, is_forward, running_in, speed_of}
 use Rattle.railway.specs.Turnouts.{checked, laid, same_bool}
@@ -69,6 +69,11 @@ abbrev pub runs_only : (forward : Bool) → List Node → (micros : ℕ) → Tra
 runs_only forward nodes micros train =
     goes_only forward (asked_of nodes train) micros train.velocity
 
+-- its motor has one direction in all of them
+abbrev pub is_one_way : List Node → (micros : ℕ) → TrainState → Bool
+is_one_way nodes micros train =
+    runs_only true nodes micros train || runs_only false nodes micros train
+
 -- its motor stands at a moment within so many microseconds
 pub record StandsBetween (nodes : List Node) (micros : ℕ) (train : TrainState) : Type 0 where
   pub moment : ℕ
@@ -110,20 +115,31 @@ is_sensor_failure other = is_failure other
 abbrev pub HasAllBlocks : FailingSensors → Type 0
 HasAllBlocks failing = (length failing.occupied ≡ 64) × (length failing.free ≡ 64)
 
--- a report is one of a change: of a sensor whose level was not as it says, and now is
-pub record IsChange (blocks : List Block) (was is : (block : ℕ) → Bool)
+-- the sensor of a block finds it occupied at a moment of so many microseconds
+pub record IsSensedAt (railway : RailwayState) (micros : ℕ) (power : Power) (nodes : List Node)
+    (block : ℕ) : Type 0 where
+  pub moment : ℕ
+  pub within : moment ≤ micros
+  pub sensed : IsTrue (is_sensed (elapsed railway moment power nodes) block)
+
+-- A report is one of a change: that of a block as occupied is of a sensor that found it free before
+-- and occupied at a moment of the time; that of a block as free of one that found it occupied, before
+-- or then, and finds it free in the end.
+pub record IsChange (blocks : List Block) (was sensed is : (block : ℕ) → Bool)
     (report : SensorReport) : Type 0 where
   pub block : ℕ
   pub of_plan : block < length blocks
   pub sensor : (slice_index_or blocks block default_block).sensor ≡ Some report.sensor
-  pub before : was block ≡ not report.occupied
-  pub after : is block ≡ report.occupied
+  pub found : IsTrue (sensed block)
+  pub before : IsTrue report.occupied → was block ≡ false
+  pub after : report.occupied ≡ false → is block ≡ false
 
 -- each of the reports is one of a change
-abbrev pub AreChanges : List Block → (was is : (block : ℕ) → Bool) → List SensorReport → Type 0
-AreChanges blocks was is [] = Unit {0}
-AreChanges blocks was is (report ∷ reports) =
-    IsChange blocks was is report × AreChanges blocks was is reports
+abbrev pub AreChanges : List Block → (was sensed is : (block : ℕ) → Bool) → List SensorReport
+    → Type 0
+AreChanges blocks was sensed is [] = Unit {0}
+AreChanges blocks was sensed is (report ∷ reports) =
+    IsChange blocks was sensed is report × AreChanges blocks was sensed is reports
 
 -- A report is one of a completed movement: of a turnout with feedback that moved, or lay at the other
 -- side, and now lies where the report says.

@@ -1,5 +1,5 @@
 -- A railway, and what time makes of it.
-use Rattle.std.specs.Prelude.{ℕ, zero, suc, ◌/◌, ◌&&◌, Bool, true, List, length, map, nat_le, nat_lt, if◌then◌else◌, Option, Some, None, slice_get, slice_set}
+use Rattle.std.specs.Prelude.{ℕ, zero, suc, ◌/◌, ◌&&◌, ◌||◌, Bool, true, List, length, map, nat_le, nat_lt, if◌then◌else◌, Option, Some, None, slice_get, slice_set}
 use Rattle.std.specs.List.{list_all, slice_index_or}
 use Rattle.std.specs.Option.{option_or}
 use Rattle.decoder_node.specs.declared.node.NodeSpec.{NodeSpec}
@@ -18,9 +18,10 @@ use Rattle.railway.specs.declared.train.Train.{Train}
 use Rattle.railway.specs.declared.train.TrainState.{TrainState}
 use Rattle.railway.specs.Failures.{none_failing}
 use Rattle.railway.specs.Network.{Network, is_sound, is_whole, onward}
+use Rattle.railway.specs.Passing.{is_slow}
 use Rattle.railway.specs.Placement.{has_front, is_room, state_of_train}
 use Rattle.railway.specs.Places.{leading_end, still}
-use Rattle.railway.specs.Reports.{changes, senses}
+use Rattle.railway.specs.Reports.{changes_through, senses}
 use Rattle.railway.specs.Running.{is_within, run_for}
 use Rattle.railway.specs.Trains.{default_state, is_movable, running_in}
 use Rattle.railway.specs.Turnouts.{advanced, checked, is_calm, laid, network_of}
@@ -40,12 +41,12 @@ planned specs plan = record {
 }
 
 -- a train is at least a millimetre long, has its ends in blocks of the plan within their lengths, is
--- on the rails from its rear to its front and knows the blocks between, or is derailed, and has a
--- speed that it can have
+-- on the rails from its rear to its front and knows the blocks between, or is derailed, has a speed
+-- that it can have, and can pass no block unseen
 abbrev pub is_train : Network → TrainState → Bool
 is_train network train =
     nat_le 1 train.length && is_within network.blocks train && is_whole network train
-    && is_movable train
+    && is_movable train && is_slow network.blocks train
 
 -- what holds of every railway
 abbrev pub is_railway : RailwayState → Bool
@@ -101,11 +102,24 @@ elapsed railway micros power nodes = run_through power micros nodes (laid_in nod
 abbrev pub is_sensed : RailwayState → (block : ℕ) → Bool
 is_sensed railway block = senses railway.failing railway.trains block
 
+-- it does so at a moment of so many microseconds, which pass one after another
+unfoldable pub is_sensed_through : Power → (micros : ℕ) → List Node → RailwayState → (block : ℕ)
+    → Bool
+is_sensed_through power zero nodes railway block = is_sensed railway block
+is_sensed_through power (suc micros) nodes railway block =
+    is_sensed railway block
+    || is_sensed_through power micros nodes (ran_in power 1 nodes railway) block
+
+-- it does so at a moment of a time in which the decoders do this
+abbrev pub is_sensed_in : RailwayState → (micros : ℕ) → Power → List Node → (block : ℕ) → Bool
+is_sensed_in railway micros power nodes =
+    is_sensed_through power micros nodes (laid_in nodes railway)
+
 -- what the sensors report of it
 abbrev pub reports_in : RailwayState → (micros : ℕ) → Power → List Node → List SensorReport
 reports_in railway micros power nodes =
-    changes railway.network.blocks (is_sensed railway)
-    (is_sensed (elapsed railway micros power nodes))
+    changes_through railway.network.blocks (is_sensed railway)
+    (is_sensed_in railway micros power nodes) (is_sensed (elapsed railway micros power nodes))
 
 abbrev pub unless_held : Onward → (speed : ℕ) → ℕ
 unless_held (To place) speed = speed

@@ -1,5 +1,5 @@
 -- What sensors report, and what an observer knows by it.
-use Rattle.std.specs.Prelude.{ℕ, ◌≡◌, ◌<◌, ◌+◌, ◌==◌, ◌&&◌, ◌||◌, ◌++◌, Bool, true, false, nat_lt, not, if◌then◌else◌, List, [], ◌∷◌, Option, Some, None}
+use Rattle.std.specs.Prelude.{ℕ, ◌≡◌, ◌<◌, ◌+◌, ◌==◌, ◌&&◌, ◌||◌, ◌++◌, Bool, true, false, nat_lt, not, if◌then◌else◌, List, [], ◌∷◌, length, Option, Some, None}
 use Rattle.std.specs.Bool.{beq}
 use Rattle.std.specs.Cmp.Lexicographic.{pointwise}
 use Rattle.std.specs.List.{list_any, slice_index_or}
@@ -56,9 +56,20 @@ changes_from level was is i (block ∷ blocks) =
 abbrev pub changes : List Block → (was is : (block : ℕ) → Bool) → List SensorReport
 changes blocks was is = changes_from true was is 0 blocks ++ changes_from false was is 0 blocks
 
+-- What they report of a time: each that found its block free before, and occupied at a moment of it;
+-- then each that found it occupied, before or then, and finds it free in the end.
+abbrev pub changes_through : List Block → (was sensed is : (block : ℕ) → Bool) → List SensorReport
+changes_through blocks was sensed is =
+    changes_from true was sensed 0 blocks ++ changes_from false sensed is 0 blocks
+
 -- these marks are those of the blocks with this level
 abbrev pub AreMarked : (is : (block : ℕ) → Bool) → (marks : List Bool) → Type 0
 AreMarked is marks = (block : ℕ) → block < 64 → slice_index_or marks block false ≡ is block
+
+-- these marks are those of the blocks of a plan with this level
+abbrev pub AreBlocksMarked : List Block → (is : (block : ℕ) → Bool) → (marks : List Bool) → Type 0
+AreBlocksMarked blocks is marks =
+    (block : ℕ) → block < 64 → block < length blocks → slice_index_or marks block false ≡ is block
 
 -- what sensors report that found the blocks with these marks occupied and now find those with others
 abbrev pub changes_in : (level : Bool) → (was is : List Bool) → (i : ℕ) → List Block
@@ -70,6 +81,10 @@ changes_in level was is i (block ∷ blocks) =
 
 abbrev pub changes_of : (was is : List Bool) → List Block → List SensorReport
 changes_of was is blocks = changes_in true was is 0 blocks ++ changes_in false was is 0 blocks
+
+abbrev pub changes_through_of : (was sensed is : List Bool) → List Block → List SensorReport
+changes_through_of was sensed is blocks =
+    changes_in true was sensed 0 blocks ++ changes_in false sensed is 0 blocks
 
 -- the report of a sensor with this level
 abbrev pub level_of : Option ℕ → Bool → Option SensorReport
@@ -90,6 +105,11 @@ abbrev pub full_in : (is : List Bool) → (i : ℕ) → List Block → List Sens
 full_in is i [] = []
 full_in is i (block ∷ blocks) =
     onto (level_of block.sensor (slice_index_or is i false)) (full_in is (i + 1) blocks)
+
+-- a report of a sensor with this level is among these
+abbrev pub has_report : (sensor : ℕ) → (level : Bool) → List SensorReport → Bool
+has_report sensor level reports =
+    list_any (λ report. report.sensor == sensor && same_bool report.occupied level) reports
 
 -- the level that an observer of these reports knows of a sensor: that of its last one
 abbrev pub level_after : List SensorReport → (sensor : ℕ) → Bool → Bool

@@ -1,5 +1,5 @@
 -- Trains, and how fast their decoders run them.
-use Rattle.std.specs.Prelude.{ℕ, ◌*◌, ◌/◌, ◌&&◌, Bool, true, nat_le, min, List, Option, Some, None, slice_get}
+use Rattle.std.specs.Prelude.{ℕ, ◌*◌, ◌/◌, ◌&&◌, Bool, true, nat_le, nat_lt, min, not, is_some, List, Option, Some, None, slice_get}
 use Rattle.std.specs.Option.{option_and_then}
 use Rattle.dcc_packet.specs.declared.steps.Motion.{Motion}
 use Rattle.dcc_packet.specs.declared.steps.Motion.TheVariants.{Stop, Emergency, Step}
@@ -8,7 +8,7 @@ use Rattle.dcc_packet.specs.declared.steps.Steps.TheVariants.{S14, S28, S128}
 use Rattle.decoder_node.specs.declared.running.Running.{Running}
 use Rattle.layout_core.specs.declared.node.Node.{Node}
 use Rattle.layout_core.specs.Nodes.{running_of}
-use Rattle.motion.specs.Velocity.{is_momentum, velocity}
+use Rattle.motion.specs.Velocity.{is_momentum, same_bool, velocity}
 use Rattle.motion.specs.declared.velocity.Drive.{Drive}
 use Rattle.motion.specs.declared.velocity.Momentum.{Momentum}
 use Rattle.motion.specs.declared.velocity.Velocity.{Velocity}
@@ -53,11 +53,13 @@ last_step S28 = 28
 last_step S128 = 126
 
 -- the speed of a motion in femtometres a microsecond, rounded down; `top` is that of the last step in
--- millimetres a second. No train is faster than 2 ^ 41, some 2 kilometres a second.
+-- millimetres a second. No train is faster than at its last step, nor than 2 ^ 41, some 2 kilometres a
+-- second.
 abbrev pub speed_at : (top : ℕ) → Motion → ℕ
 speed_at top Stop = 0
 speed_at top Emergency = 0
-speed_at top (Step steps n) = min (top * 1000000 * n / last_step steps) 2199023255552
+speed_at top (Step steps n) =
+    min (top * 1000000 * min n (last_step steps) / last_step steps) 2199023255552
 
 -- Without a locomotive decoder a train is to stand.
 abbrev pub speed_of : (top : ℕ) → Option Running → ℕ
@@ -85,6 +87,12 @@ drive_of train running = record {
   speed = speed_of train.top running;
   momentum = momentum_of running train.momentum;
 }
+
+-- It is to turn round: its motor runs the other way than its decoder asks for, and has momentum.
+abbrev pub turns_round : Option Running → TrainState → Bool
+turns_round running train =
+    is_some train.momentum && nat_lt 0 train.velocity.speed
+    && not (same_bool train.velocity.forward (is_forward running))
 
 -- a train with a speed that it can have, and rates of at least 1
 abbrev pub is_movable : TrainState → Bool

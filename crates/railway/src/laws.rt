@@ -1,9 +1,8 @@
 //! The laws of a railway, each as a function that does nothing and ensures it: a call hands the
 //! law to a proof.
-ghost use Rattle.std.specs.Prelude.{◌≡◌, ◌≢◌, ◌↔◌, ◌⊎◌, ℕ, ◌+◌, ◌*◌, ◌/◌, ◌<◌, ◌≤◌, Bool, List, [], length, map, not, true, false, IfSome, IsTrue, Some, None};
+ghost use Rattle.std.specs.Prelude.{◌≡◌, ◌≢◌, ◌↔◌, ℕ, ◌+◌, ◌*◌, ◌/◌, ◌<◌, ◌≤◌, Bool, List, [], length, map, not, true, false, IfSome, IsTrue, Some, None};
 ghost use Rattle.std.specs.List.{slice_index_or};
 ghost use Rattle.dcc_packet.specs.declared.steps.Motion.TheVariants.{Emergency, Stop};
-ghost use Rattle.decoder_node.specs.declared.node.NodeSpec.{NodeSpec};
 ghost use Rattle.decoder_node.specs.declared.running.Running.{Running};
 ghost use Rattle.layout_core.specs.declared.node.Node.{Node};
 ghost use Rattle.motion.specs.Velocity.{braking_way, is_momentum, same_bool, velocity};
@@ -16,7 +15,6 @@ ghost use Rattle.railway.specs.declared.exit.Exit.TheVariants.{Leads, Against as
 ghost use Rattle.railway.specs.declared.exit.Onward.TheVariants.{BufferStop, Against};
 ghost use Rattle.railway.specs.declared.failing_sensors.FailingSensors.{FailingSensors};
 ghost use Rattle.railway.specs.declared.joint.TurnoutState.{TurnoutState};
-ghost use Rattle.railway.specs.declared.plan.Plan.{Plan};
 ghost use Rattle.railway.specs.declared.train.Place.{Place};
 ghost use Rattle.railway.specs.declared.train.TrainState.{TrainState};
 ghost use Rattle.railway.specs.declared.turnout_report.TurnoutReport.{TurnoutReport};
@@ -24,15 +22,13 @@ ghost use Rattle.railway.specs.Blocks.{default_block, length_of};
 ghost use Rattle.railway.specs.Conflicts.{conflict_in};
 ghost use Rattle.railway.specs.Driven.{AllLeaveAlone, AreDrivenBy, HasRun, time_in};
 ghost use Rattle.railway.specs.Course.{Happening, after, after_all, movements_of, movements_of_all, reports_of_all};
-ghost use Rattle.railway.specs.Laws.{AreChanges, AreCompleted, HasAllBlocks, IsCompleted, IsConflict, IsOnRails, IsOnWay, StandsBetween, is_among, is_failure, is_moving_end, is_sensor_failure, is_time, leading, runs_only, speed_times_time, train_after, velocity_of, way_of};
+ghost use Rattle.railway.specs.Laws.{AreChanges, AreCompleted, HasAllBlocks, IsCompleted, IsConflict, IsOnRails, IsOnWay, IsSensedAt, StandsBetween, is_among, is_failure, is_moving_end, is_sensor_failure, is_time, leading, runs_only, speed_times_time, train_after, velocity_of, way_of};
 ghost use Rattle.railway.specs.Failures.{failing_by, has_switch, none_failing, with_sensor};
-ghost use Rattle.railway.specs.Faults.{fault_of};
 ghost use Rattle.railway.specs.Feedback.{full_turnouts, is_alone, turnout_report_bytes, side_after, turnout_report_of};
-ghost use Rattle.railway.specs.Passing.{GoesShort, IsOfPlan, is_no_faster, longest_turn};
 ghost use Rattle.railway.specs.Network.{Network, exit_of, is_sound, lies, onward, switch_at, turnouts_of, way_on};
 ghost use Rattle.railway.specs.Places.{end_ahead, is_derailed, leading_end, span, still, to_end};
-ghost use Rattle.railway.specs.Railway.{RailwayState, elapsed, is_piece, is_railway, is_sensed, is_train, laid_in, ran_in, reports_in, run_in, run_under};
-ghost use Rattle.railway.specs.Reports.{full, is_occupied, level_after, occupies, senses};
+ghost use Rattle.railway.specs.Railway.{RailwayState, elapsed, is_piece, is_railway, is_sensed, is_sensed_in, is_train, laid_in, ran_in, reports_in, run_in, run_under};
+ghost use Rattle.railway.specs.Reports.{full, has_report, is_occupied, level_after, occupies, senses};
 ghost use Rattle.railway.specs.Trains.{is_forward, running_in};
 ghost use Rattle.railway.specs.Turnouts.{asked, checked, is_changed, is_moved_end, laid, moved_on, moved_on_under, observed, outputs_in, seen_of};
 
@@ -334,36 +330,36 @@ pub fn failing_turnouts_stay()
 pub fn reports_are_changes()
     ensures changes { (railway : RailwayState) (micros : ℕ) (power : Power) (nodes : List Node)
         → AreChanges railway.network.blocks (is_sensed railway)
+        (is_sensed_in railway micros power nodes)
         (is_sensed (elapsed railway micros power nodes)) (reports_in railway micros power nodes) }
 {}
 
-/// Nothing passes unseen: a block in which a part of a train is at a moment of a time is occupied at
-/// the start of that time or at its end, if the train goes one way meanwhile and less far than the
-/// block and the train together are long, whatever turnouts do.
+/// Nothing passes unseen: a block in which a part of a train is at any moment of a time is reported as
+/// occupied, unless it was before, and as free, if it is so in the end; also if the train turns round
+/// and leaves the block again, whatever turnouts do. Only a sensor that fails reports otherwise.
 pub fn nothing_passes_unseen()
-    ensures seen { (railway : RailwayState) (micros moment : ℕ) (power : Power)
-        (nodes : List Node) (i block : ℕ) (none : TrainState)
-        → IsTrue (is_railway railway) → i < length railway.trains → moment ≤ micros
-        → GoesShort railway.network.blocks nodes micros block
-        (slice_index_or railway.trains i none)
+    ensures occupied { (railway : RailwayState) (micros moment : ℕ) (power : Power)
+        (nodes : List Node) (i block sensor : ℕ) (none : TrainState)
+        → i < length railway.trains → moment ≤ micros
         → IsTrue (occupies block (slice_index_or (elapsed railway moment power nodes).trains i none))
-        → IsTrue (occupies block (slice_index_or railway.trains i none))
-        ⊎ IsTrue (occupies block
-        (slice_index_or (elapsed railway micros power nodes).trains i none)) }
-    // So far goes no train of a plan without a fault in the time of a turn, unless it is faster than
-    // at its last step, and it never is.
-    ensures short { (specs : List NodeSpec) (plan : Plan) (block micros : ℕ) (nodes : List Node)
-        (train : TrainState) → fault_of specs plan ≡ None → micros ≤ longest_turn
-        → IsOfPlan plan train → block < length plan.blocks.items
-        → IsTrue (is_no_faster nodes train)
-        → way_of nodes micros train
-        < train.length * 1000000000000 + length_of plan.blocks.items block }
-    ensures slow { (power : Power) (network : Network) (micros : ℕ) (nodes : List Node)
-        (train : TrainState) → IsTrue (is_no_faster nodes train)
-        → IsTrue (is_no_faster nodes (run_under power network micros nodes train)) }
-{
-    motion::laws::times_add_up();
-}
+        → slice_index_or railway.failing.free block false ≡ false
+        → block < length railway.network.blocks
+        → (slice_index_or railway.network.blocks block default_block).sensor ≡ Some sensor
+        → is_sensed railway block ≡ false
+        → IsTrue (has_report sensor true (reports_in railway micros power nodes)) }
+    ensures free { (railway : RailwayState) (micros moment : ℕ) (power : Power)
+        (nodes : List Node) (i block sensor : ℕ) (none : TrainState)
+        → i < length railway.trains → moment ≤ micros
+        → IsTrue (occupies block (slice_index_or (elapsed railway moment power nodes).trains i none))
+        → slice_index_or railway.failing.free block false ≡ false
+        → block < length railway.network.blocks
+        → (slice_index_or railway.network.blocks block default_block).sensor ≡ Some sensor
+        → is_sensed (elapsed railway micros power nodes) block ≡ false
+        → IsTrue (has_report sensor false (reports_in railway micros power nodes)) }
+    ensures moments { (railway : RailwayState) (micros : ℕ) (power : Power) (nodes : List Node)
+        (block : ℕ) → IsTrue (is_sensed_in railway micros power nodes block)
+        ↔ IsSensedAt railway micros power nodes block }
+{}
 
 /// Turnouts with feedback report exactly their completed movements: nothing while they move, and
 /// nothing without a movement. No failure and no placement makes such a report.

@@ -33,6 +33,7 @@ mod feedback;
 mod joint;
 pub mod laws;
 mod moving;
+mod one_way;
 mod passing;
 mod placement;
 mod plan;

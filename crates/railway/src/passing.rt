@@ -7,7 +7,7 @@ use crate::fault::PlanFault;
 use crate::train::Train;
 
 /// The longest time in which the decoders do the same, in microseconds: that of a turn.
-const LONGEST_TURN: u64 = 10_740;
+pub(crate) const LONGEST_TURN: u32 = 10_740;
 
 /// The millionths of a millimetre.
 const MILLIONTHS: u64 = 1_000_000;
@@ -15,9 +15,9 @@ const MILLIONTHS: u64 = 1_000_000;
 /// Whether a train could enter a block of this length in millimetres and leave it again within a
 /// turn, at its speed at the last step.
 fn passes_unseen(train: &Train, length: u32) -> bool
-    ensures { result ≡ passes_unseen train.now length }
+    ensures { result ≡ passes_unseen train.now.top train.now.length length }
 {
-    let most = u64::from(train.top) * LONGEST_TURN;
+    let most = u64::from(train.top) * u64::from(LONGEST_TURN);
     (u64::from(train.length) + u64::from(length)) * MILLIONTHS <= most
 }
 

@@ -1,12 +1,12 @@
 //! A railway: the track and the trains on it.
-ghost use Rattle.std.specs.Prelude.{◌≡◌, ◌<◌, ◌≤◌, ℕ, Bool, IfErr, IfOk, IsTrue, List, None, OnErr, OnOk, Some, length, map};
+ghost use Rattle.std.specs.Prelude.{◌≡◌, ◌<◌, ◌≤◌, ◌||◌, ℕ, Bool, IfErr, IfOk, IsTrue, List, None, OnErr, OnOk, Some, length, map};
 ghost use Rattle.std.specs.List.{list_all};
 ghost use Rattle.railway.specs.Conflicts.{conflicts};
 ghost use Rattle.railway.specs.Faults.{fault_of};
 ghost use Rattle.railway.specs.Feedback.{movements_in};
 ghost use Rattle.railway.specs.Network.{exit_of};
-ghost use Rattle.railway.specs.Railway.{elapsed, is_piece, is_sensed, is_railway, laid_in, place_fault, placed_in, planned, reports_in, run_through, speed_in};
-ghost use Rattle.railway.specs.Reports.{AreMarked, changes, full, is_occupied, is_report};
+ghost use Rattle.railway.specs.Railway.{elapsed, is_piece, is_sensed, is_sensed_through, is_railway, laid_in, place_fault, placed_in, planned, reports_in, run_through, speed_in};
+ghost use Rattle.railway.specs.Reports.{AreBlocksMarked, AreMarked, changes, changes_through, full, is_occupied, is_report};
 ghost use Rattle.railway.specs.Turnouts.{state_of_turnout};
 
 use crate::block::{Block, BlockEnd};
@@ -18,9 +18,11 @@ use crate::failing_sensors::FailingSensors;
 use crate::fault::{PlaceFault, PlanFault};
 use crate::feedback::{TimeReports, TurnoutReports};
 use crate::joint::{Joint, Turnout, TurnoutState};
+use crate::one_way::time_one_way;
+use crate::passing::LONGEST_TURN;
 use crate::placement::has_front;
 use crate::plan::{MAX_TURNOUTS, Plan};
-use crate::report::{Reports, changes, full, is_occupied, occupied};
+use crate::report::{Reports, changes, changes_through, full, is_occupied, occupied};
 use crate::track::Track;
 use crate::train::{Position, TrainState, Trains};
 use arrayvec::ArrayVec;
@@ -100,8 +102,9 @@ impl Railway {
     /// A turnout moves to the side of the output that came on last, and takes its time. A train runs as
     /// its decoder runs, up to a buffer stop. It is derailed if a turnout begins to move under it, or
     /// moves or lies against it. Without track power trains and turnouts stand. Returns the reports of the
-    /// sensors that now find their blocks occupied, then of those that find them free, and of each
-    /// turnout with feedback that has come to lie.
+    /// sensors that found their blocks free before and occupied at a moment of this time, then of those
+    /// that found them occupied and now find them free, and of each turnout with feedback that has come to
+    /// lie.
     pub fn elapse(&mut self, micros: u32, world: &World) -> TimeReports
         ensures railway { self.new
             ≡ elapsed self.old micros world.now.station.powered.power world.now.nodes }
@@ -114,9 +117,9 @@ impl Railway {
         let before = self.sensed();
         let turnouts = self.movements(micros, world);
         self.lay(world);
-        self.pass(micros, world);
+        let sensed = self.pass(micros, world);
         TimeReports {
-            sensors: self.changes_since(before),
+            sensors: self.changes_through(before, sensed),
             turnouts,
         }
     }
@@ -130,18 +133,40 @@ impl Railway {
         self.track.movements(micros, world)
     }
 
-    /// Lets `micros` microseconds pass in which no decoder does anything else: in pieces, each until
-    /// a turnout comes to lie.
-    fn pass(&mut self, micros: u32, world: &World)
-        ensures { self.new
+    /// Lets `micros` microseconds pass in which no decoder does anything else, in pieces. Returns the
+    /// blocks that the sensors found occupied at a moment of it.
+    fn pass(&mut self, micros: u32, world: &World) -> BlockSet
+        ensures railway { self.new
             ≡ run_through world.now.station.powered.power micros world.now.nodes self.old }
+        ensures sensed { AreBlocksMarked self.old.network.blocks
+            (is_sensed_through world.now.station.powered.power micros world.now.nodes self.old)
+            result }
     {
+        let mut sensed = self.sensed();
         let mut left = micros;
         while left > 0 {
-            let piece = self.track.piece(left, world);
+            let piece = self.piece(left, world);
             self.pass_piece(piece, world);
+            sensed = sensed.union(self.sensed());
             left -= piece;
         }
+        sensed
+    }
+
+    /// Returns how long of a time no turnout comes to lie before its end, and nothing passes a sensor
+    /// unseen: each train goes one way, for at most a turn.
+    fn piece(&self, micros: u32, world: &World) -> u32
+        requires { 0 < micros }
+        ensures goes { 0 < result }
+        ensures part { result ≤ micros }
+        ensures piece { IsTrue (is_piece world.now.station.powered.power result self.now.network) }
+        ensures seen { (block : ℕ) → block < length self.now.network.blocks
+            → is_sensed_through world.now.station.powered.power result world.now.nodes self.now block
+            ≡ (is_sensed self.now block || is_sensed
+            (run_through world.now.station.powered.power result world.now.nodes self.now) block) }
+    {
+        let one_way = time_one_way(self.trains.as_slice(), micros.min(LONGEST_TURN), world);
+        self.track.piece(one_way, world)
     }
 
     /// Lets a time pass in which no turnout comes to lie before its end.
@@ -229,6 +254,18 @@ impl Railway {
     {
         let track = &self.track;
         changes(track.blocks.as_slice(), before, self.sensed())
+    }
+
+    /// Returns what the sensors report that found these blocks occupied before, and those at a moment of
+    /// the time since.
+    fn changes_through(&self, before: BlockSet, since: BlockSet) -> Reports
+        ensures reports { (was sensed : (block : ℕ) → Bool) → AreMarked was before
+            → AreBlocksMarked self.now.network.blocks sensed since
+            → result.items ≡ changes_through self.now.network.blocks was sensed (is_sensed self.now) }
+        ensures sensors { IsTrue (list_all is_report result.items) }
+    {
+        let track = &self.track;
+        changes_through(track.blocks.as_slice(), before, since, self.sensed())
     }
 
     /// Returns why a train cannot be put at a position, if it cannot.

@@ -1,6 +1,6 @@
 //! What the sensors report.
 ghost use Rattle.std.specs.Prelude.{◌≡◌, ◌≤◌, ◌+◌, ◌++◌, length};
-ghost use Rattle.railway.specs.Reports.{AreMarked, change_of, changes_in, changes_of, full_in, is_occupied, occupies, same_blocks};
+ghost use Rattle.railway.specs.Reports.{AreMarked, change_of, changes_in, changes_of, changes_through_of, full_in, is_occupied, occupies, same_blocks};
 
 use crate::block::Block;
 use crate::block_set::BlockSet;
@@ -9,10 +9,10 @@ use crate::train::TrainState;
 use arrayvec::ArrayVec;
 use ln_ops::SensorReport;
 
-/// The most reports of one moment: one of each block.
-pub const MAX_REPORTS: usize = MAX_BLOCKS;
+/// The most reports of one time: each sensor may find its block occupied, and then free.
+pub const MAX_REPORTS: usize = 2 * MAX_BLOCKS;
 
-/// The reports of one moment.
+/// The reports of sensors of one time.
 pub type Reports = ArrayVec<SensorReport, MAX_REPORTS>;
 
 impl TrainState {
@@ -51,7 +51,7 @@ pub(crate) fn occupied(trains: &[TrainState]) -> BlockSet
 
 /// Returns what the sensors report that found these blocks occupied and now find those: first the
 /// sensors whose block becomes occupied, then those whose block becomes free.
-#[tactic(auto, using(crate::proofs::Occupying::no_changes, crate::proofs::Occupying::each_once))]
+#[tactic(auto, using(crate::proofs::Occupying::no_changes, crate::proofs::Occupying::few_changes))]
 pub(crate) fn changes(blocks: &[Block], was: BlockSet, is: BlockSet) -> Reports
     requires { length blocks.now ≤ 64 }
     ensures { result.items ≡ changes_of was is blocks.now }
@@ -65,10 +65,32 @@ pub(crate) fn changes(blocks: &[Block], was: BlockSet, is: BlockSet) -> Reports
     reports
 }
 
+/// Returns what the sensors report that found the first blocks occupied before, the second at a moment
+/// of a time, the first among them, and now find the third: first the sensors whose block was free
+/// before and then occupied, then those whose block was occupied and now is free.
+#[tactic(auto, using(crate::proofs::Occupying::none_through, crate::proofs::Occupying::few_changes))]
+pub(crate) fn changes_through(
+    blocks: &[Block],
+    was: BlockSet,
+    sensed: BlockSet,
+    is: BlockSet,
+) -> Reports
+    requires { length blocks.now ≤ 64 }
+    ensures { result.items ≡ changes_through_of was sensed is blocks.now }
+{
+    let mut reports = ArrayVec::new();
+    if was.is(sensed) && sensed.is(is) {
+        return reports;
+    }
+    add_changes(&mut reports, true, blocks, was, sensed);
+    add_changes(&mut reports, false, blocks, sensed, is);
+    reports
+}
+
 /// Adds the reports of those that change to one level.
 fn add_changes(reports: &mut Reports, level: bool, blocks: &[Block], was: BlockSet, is: BlockSet)
     requires blocks { length blocks.now ≤ 64 }
-    requires room { length reports.old.items + length (changes_in level was is 0 blocks.now) ≤ 64 }
+    requires room { length reports.old.items ≤ 64 }
     ensures { reports.new.items ≡ reports.old.items ++ changes_in level was is 0 blocks.now }
 {
     for (i, block) in blocks.iter().enumerate() {

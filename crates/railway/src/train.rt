@@ -308,12 +308,13 @@ fn speed_at(top: u16, motion: Motion) -> u64
     match motion {
         Motion::Stop | Motion::Emergency => 0,
         Motion::Step { of, n } => {
-            let all = u64::from(top) * MILLIMETRE_A_SECOND * u64::from(n);
+            let top = u64::from(top) * MILLIMETRE_A_SECOND;
+            let n = u64::from(n);
             // Constants divide faster than a variable.
             let speed = match of {
-                Steps::S14 => all / 14,
-                Steps::S28 => all / 28,
-                Steps::S128 => all / 126,
+                Steps::S14 => top * n.min(14) / 14,
+                Steps::S28 => top * n.min(28) / 28,
+                Steps::S128 => top * n.min(126) / 126,
             };
             speed.min(FASTEST)
         }
@@ -321,7 +322,7 @@ fn speed_at(top: u16, motion: Motion) -> u64
 }
 
 /// Whether it runs forward.
-fn is_forward(running: Option<Running>) -> bool
+pub(crate) fn is_forward(running: Option<Running>) -> bool
     ensures { result ≡ is_forward running }
 {
     match running {

@@ -1,6 +1,9 @@
-use Rattle.railway.proofs.Speeds.{goes-short, under-slow}
-use Rattle.railway.proofs.Unseen.{seen-always}
+use Rattle.railway.proofs.Sensing.{at-sensed, reported-free, reported-occupied, sensed-at}
 use Rattle.railway.proofs.laws.nothing_passes_unseen.Goals as goal
 
 pub returns : goal.returns
-returns c = record { seen = seen-always c.times_add_up.ensures.way; short = goes-short; slow = under-slow }
+returns c = record {
+  occupied = reported-occupied;
+  free = reported-free;
+  moments = λ railway micros power nodes block. (sensed-at railway micros power nodes block, at-sensed railway micros power nodes block);
+}

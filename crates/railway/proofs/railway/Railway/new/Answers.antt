@@ -13,6 +13,8 @@ use Rattle.railway.specs.Network.{Network, is_sound}
 use Rattle.railway.specs.Railway.{is_train}
 use Rattle.railway.specs.Turnouts.{network_of, state_of_turnout}
 use Rattle.railway.proofs.Planning.{or-none, planned-sound, sound_trains, trains_in_blocks}
+use Rattle.railway.specs.Passing.{fault_of_speeds, shortest}
+use Rattle.railway.proofs.Speeds.{all-slow}
 use Rattle.railway.proofs.railway.Railway.new.Goals as goal
 
 -- The track has no fault, and its turnouts are those of the definition.
@@ -45,9 +47,9 @@ invariant_of-result c =
     let n : Network = record (network_of specs c.args.plan) { turnouts = c.turnout_states-turnouts.result.items } in
     let all : fault_of_all_trains specs n c.as_slice-3.result.now ≡ None =
     ap (λ (ts : List Train). fault_of_all_trains specs n ts) (c.as_slice-3.ensures.value ∙ sym c.as_slice-2.ensures.value) ∙ sym c.fault_of_all_trains.ensures ∙ c.in-None-fault_of_all_trains.is in
-    let none = (or-none (fault_of_trains specs n 0 c.as_slice-3.result.now) _ all).0 in
+    let none = or-none (fault_of_trains specs n 0 c.as_slice-3.result.now) (fault_of_speeds (shortest None n.blocks) 0 c.as_slice-3.result.now) all in
     let sound : IsTrue (is_sound n) =
     sound_track specs c.args.plan c.turnout_states-turnouts.result.items (sym c.fault_of_track.ensures ∙ c.in-None.is)
     (c.turnout_states-turnouts.ensures ∙ ap (λ (ts : List Turnout). map (state_of_turnout specs) ts) c.as_slice.ensures.value) in
     and_from (is_sound n) (list_all (is_train n) c.train_states-trains.result.items) sound
-    (subst (λ (ts : List TrainState). list_all (is_train n) ts ≡ true) (sym c.train_states-trains.ensures) (sound_trains specs n 0 c.as_slice-3.result.now sound none))
+    (subst (λ (ts : List TrainState). list_all (is_train n) ts ≡ true) (sym c.train_states-trains.ensures) (sound_trains specs n 0 c.as_slice-3.result.now sound none.0 (all-slow n.blocks c.as_slice-3.result.now none.1)))
