@@ -36,7 +36,7 @@ use Rattle.programming_track.specs.Bench.{BenchState, name_at, next_change, numb
 use Rattle.bus_server.specs.Placement.{answered, place_answer}
 use Rattle.programming_track.specs.declared.packet_end.NamedChange.{NamedChange}
 use Rattle.bus_server.specs.Programming.{device_answer, device_reply, programmed}
-use Rattle.bus_server.specs.SendQueue.{enqueued, is_more_than_half, queued}
+use Rattle.bus_server.specs.SendQueue.{enqueued, is_more_than_quarter, queued}
 use Rattle.bus_server.specs.Rounds.{IsReadOn, IsRound, IsUnread, Reads, ReadsOn, ServesClient, ServesClients, is_read, is_reading, is_write_blocked, nth_client}
 use Rattle.bus_server.specs.declared.pace.Pace.{Pace}
 use Rattle.bus_server.specs.declared.pace.Pace.TheVariants.{AfterMessages, RealTime}
@@ -68,7 +68,7 @@ as_sized : (client n : ℕ) (state : ServerState) → Within client n state → 
 as_sized client n state h = (h.0, omega (arith, h.1), h.2, h.3)
 
 -- with the reports that may be due
-as_within : (client n : ℕ) (state : ServerState) → Sized client n state → Within client (n + 2790) state
+as_within : (client n : ℕ) (state : ServerState) → Sized client n state → Within client (n + 4134) state
 as_within client n state h = (h.0, omega (arith, h.1, h.3.0), h.2, h.3)
 
 when_none_due : (client n : ℕ) (state : ServerState) → state.unreported ≡ [] → Sized client n state → Within client n state
@@ -142,21 +142,21 @@ connected_still clients reader client byte = elim (cases_eq client reader) [
 
 -- the text of a request, and the reports that it makes due
 request_within : (client reader n : ℕ) (request : Option Request) (old new : ServerState) → new.queues ≡ queues_after (answered_request old reader request) old.queues
-    → is_connected new client ≡ is_connected old client → HasFew new → length (text_for client (answered_request old reader request)) ≤ 789 → n + 3579 ≤ 65536 → Within client n old → Within client (n + 3579) new
-request_within client reader n None old new queues connected few most room h = same_within client n (n + 3579) old new queues connected few (omega (arith, few.0, h.1)) h
+    → is_connected new client ≡ is_connected old client → HasFew new → length (text_for client (answered_request old reader request)) ≤ 789 → n + 4923 ≤ 65536 → Within client n old → Within client (n + 4923) new
+request_within client reader n None old new queues connected few most room h = same_within client n (n + 4923) old new queues connected few (omega (arith, few.0, h.1)) h
 request_within client reader n (Some (Invalid reason)) old new queues connected few most room h =
-    enqueues_within client n (n + 3579) (Rejected reader reason) old new queues connected few (omega (arith, most, few.0, h.1)) room h
+    enqueues_within client n (n + 4923) (Rejected reader reason) old new queues connected few (omega (arith, most, few.0, h.1)) room h
 request_within client reader n (Some (Send message)) old new queues connected few most room h =
-    enqueues_within client n (n + 3579) (Sent reader message (device_reply old.programming old.railway message (reply_to old.bus (Some (Send message))))) old new queues connected few (omega (arith, most, few.0, h.1)) room h
+    enqueues_within client n (n + 4923) (Sent reader message (device_reply old.programming old.railway message (reply_to old.bus (Some (Send message))))) old new queues connected few (omega (arith, most, few.0, h.1)) room h
 request_within client reader n (Some (Turns count)) old new queues connected few most room h =
-    enqueues_within client n (n + 3579) (TurnsRequested reader (granted old.bus.options.is_stepped count)) old new queues connected few (omega (arith, most, few.0, h.1)) room h
+    enqueues_within client n (n + 4923) (TurnsRequested reader (granted old.bus.options.is_stepped count)) old new queues connected few (omega (arith, most, few.0, h.1)) room h
 request_within client reader n (Some (Place placement)) old new queues connected few most room h =
-    enqueues_within client n (n + 3579) (Placed reader (place_answer old.names old.railway placement)) old new queues connected few (omega (arith, most, few.0, h.1)) room h
+    enqueues_within client n (n + 4923) (Placed reader (place_answer old.names old.railway placement)) old new queues connected few (omega (arith, most, few.0, h.1)) room h
 request_within client reader n (Some (Device request)) old new queues connected few most room h =
-    enqueues_within client n (n + 3579) (DeviceAnswered reader (device_answer old.programming old.railway request)) old new queues connected few (omega (arith, most, few.0, h.1)) room h
-request_within client reader n (Some (States things)) old new queues connected few most room h = same_within client n (n + 3579) old new queues connected few (omega (arith, few.0, h.1)) h
+    enqueues_within client n (n + 4923) (DeviceAnswered reader (device_answer old.programming old.railway request)) old new queues connected few (omega (arith, most, few.0, h.1)) room h
+request_within client reader n (Some (States things)) old new queues connected few most room h = same_within client n (n + 4923) old new queues connected few (omega (arith, few.0, h.1)) h
 
-receives_within : Limits → (client reader byte n : ℕ) (observed : Observation) (old new : ServerState) → RunsEvent (Receives reader byte) observed old new → n + 3579 ≤ 65536 → Within client n old → Within client (n + 3579) new
+receives_within : Limits → (client reader byte n : ℕ) (observed : Observation) (old new : ServerState) → RunsEvent (Receives reader byte) observed old new → n + 4923 ≤ 65536 → Within client n old → Within client (n + 4923) new
 receives_within same client reader byte n observed old new runs room h =
     request_within client reader n (request_at (client_of old.bus reader) byte) old new runs.queues
     (ap (λ (bus : BusState). is_some (slice_index_or bus.clients client None)) runs.bus ∙ connected_still old.bus.clients reader client byte)
@@ -252,67 +252,67 @@ piece_is_step (Disconnects client) is = cc
 piece_is_step (Reports message) is = cc
 piece_is_step (Programs packet change) is = cc
 
-time_within : Limits → (client n : ℕ) (event : Event) (observed : Observation) (old new : ServerState) → IsStep event → RunsEvent event observed old new → n + 2790 ≤ 65536 → Within client n old → Within client (n + 2790) new
+time_within : Limits → (client n : ℕ) (event : Event) (observed : Observation) (old new : ServerState) → IsStep event → RunsEvent event observed old new → n + 4134 ≤ 65536 → Within client n old → Within client (n + 4134) new
 time_within same client n event observed old new step runs room h =
     let clients : new.bus.clients ≡ old.bus.clients = ap (λ (bus : BusState). bus.clients) runs.bus ∙ clients_in_time event old.bus step.0 in
     let few = event_few same event observed old new step.1 runs h.3.1 in
-    same_within client n (n + 2790) old new (runs.queues ∙ queues_in_time event old step.0 step.1)
+    same_within client n (n + 4134) old new (runs.queues ∙ queues_in_time event old step.0 step.1)
     (ap (λ (all : List (Option (List ℕ))). is_some (slice_index_or all client None)) clients) few (omega (arith, few.0, h.1)) h
 
 step_within : Limits → (is_step : Event → Bool) → ((event : Event) → is_step event ≡ true → IsStep event) → (client n : ℕ) (applied : List LoggedEvent) (old new : ServerState) → RunsStep is_step applied old new
-    → n + 2790 ≤ 65536 → Within client n old → Within client (n + 2790) new
+    → n + 4134 ≤ 65536 → Within client n old → Within client (n + 4134) new
 step_within same is_step are client n applied old new step room h =
     let first = first_event step.0 applied old new step.2 step.3 in
-    reports_within client (n + 2790) first.2 first.1 new first.5 first.4 room (time_within same client n step.0 first.0 old first.1 (are step.0 step.1) first.3 room h)
+    reports_within client (n + 4134) first.2 first.1 new first.5 first.4 room (time_within same client n step.0 first.0 old first.1 (are step.0 step.1) first.3 room h)
 
--- while no queue is more than half full
+-- while no queue is more than a quarter full
 
 unread_parts : (a b : Bool) → (a || b) ≡ false → (a ≡ false) × (b ≡ false)
 unread_parts true b h = cc
 unread_parts false b h = (refl, h)
 
-uncrowded_at : (queues : SendQueues) (i : ℕ) → list_any is_more_than_half queues ≡ false → length (queued (slice_index_or queues i None)) ≤ 32768
+uncrowded_at : (queues : SendQueues) (i : ℕ) → list_any is_more_than_quarter queues ≡ false → length (queued (slice_index_or queues i None)) ≤ 16384
 uncrowded_at [] i none = omega arith
 uncrowded_at (queue ∷ queues) zero none =
-    let first = (unread_parts (is_more_than_half queue) (list_any is_more_than_half queues) none).0 in
+    let first = (unread_parts (is_more_than_quarter queue) (list_any is_more_than_quarter queues) none).0 in
     grind (arith, nat_tests, first)
-uncrowded_at (queue ∷ queues) (suc i) none = uncrowded_at queues i (unread_parts (is_more_than_half queue) (list_any is_more_than_half queues) none).1
+uncrowded_at (queue ∷ queues) (suc i) none = uncrowded_at queues i (unread_parts (is_more_than_quarter queue) (list_any is_more_than_quarter queues) none).1
 
-uncrowded : (client n : ℕ) (state : ServerState) → is_crowded state ≡ false → Sized client n state → Sized client 32768 state
+uncrowded : (client n : ℕ) (state : ServerState) → is_crowded state ≡ false → Sized client n state → Sized client 16384 state
 uncrowded client n state none h = (h.0, uncrowded_at state.queues client none, h.2, h.3)
 
 steps_within : Limits → (is_step : Event → Bool) → ((event : Event) → is_step event ≡ true → IsStep event) → (client n count : ℕ) (applied : List LoggedEvent) (old new : ServerState)
-    → RunsSteps is_step count applied old new → 35558 ≤ n → n + 2790 ≤ 65536 → Within client n old → Within client (n + 2790) new
-steps_within same is_step are client n zero applied old new steps most room h = subst (λ (s : ServerState). Within client (n + 2790) s) (sym steps.1) (within_more client n (n + 2790) old (omega arith) h)
+    → RunsSteps is_step count applied old new → 20518 ≤ n → n + 4134 ≤ 65536 → Within client n old → Within client (n + 4134) new
+steps_within same is_step are client n zero applied old new steps most room h = subst (λ (s : ServerState). Within client (n + 4134) s) (sym steps.1) (within_more client n (n + 4134) old (omega arith) h)
 steps_within same is_step are client n (suc zero) applied old new steps most room h =
     step_within same is_step are client n steps.1 steps.2 new steps.6 room (subst (λ (s : ServerState). Within client n s) (sym steps.4.1) h)
 steps_within same is_step are client n (suc (suc count)) applied old new steps most room h =
     let some : 0 < suc count = omega arith in
     let before = steps_within same is_step are client n (suc count) steps.0 old steps.2 steps.4 most room h in
-    let half = as_within client 32768 steps.2 (uncrowded client (n + 2790) steps.2 (steps.5 some) (as_sized client (n + 2790) steps.2 before)) in
-    step_within same is_step are client n steps.1 steps.2 new steps.6 room (within_more client 35558 n steps.2 most half)
+    let half = as_within client 16384 steps.2 (uncrowded client (n + 4134) steps.2 (steps.5 some) (as_sized client (n + 4134) steps.2 before)) in
+    step_within same is_step are client n steps.1 steps.2 new steps.6 room (within_more client 20518 n steps.2 most half)
 
-turns_of_within : Limits → (client other n : ℕ) (applied : List LoggedEvent) (old new : ServerState) → RunsTurnsOf other applied old new → 35558 ≤ n → n + 2790 ≤ 65536 → Within client n old → Within client (n + 2790) new
+turns_of_within : Limits → (client other n : ℕ) (applied : List LoggedEvent) (old new : ServerState) → RunsTurnsOf other applied old new → 20518 ≤ n → n + 4134 ≤ 65536 → Within client n old → Within client (n + 4134) new
 turns_of_within same client other n applied old new turns most room h = elim turns [
-  | inl none ↦ subst (λ (s : ServerState). Within client (n + 2790) s) (sym none.2) (within_more client n (n + 2790) old (omega arith) h)
+  | inl none ↦ subst (λ (s : ServerState). Within client (n + 4134) s) (sym none.2) (within_more client n (n + 4134) old (omega arith) h)
   | inr some ↦
-      let ran : Within client (n + 2790) (with_turns_run other some.1 some.2) = steps_within same is_turn turn_is_step client n some.1 applied old some.2 some.3 most room h in
-      subst (λ (s : ServerState). Within client (n + 2790) s) (sym some.5) ran
+      let ran : Within client (n + 4134) (with_turns_run other some.1 some.2) = steps_within same is_turn turn_is_step client n some.1 applied old some.2 some.3 most room h in
+      subst (λ (s : ServerState). Within client (n + 4134) s) (sym some.5) ran
 ]
 
-turns_within : Limits → (client below : ℕ) (applied : List LoggedEvent) (old new : ServerState) → RunsTurns below applied old new → below ≤ 8 → Within client 35558 old → Within client (35558 + 2790 * below) new
-turns_within same client zero applied old new turns most h = subst (λ (s : ServerState). Within client 35558 s) (sym turns.1) h
+turns_within : Limits → (client below : ℕ) (applied : List LoggedEvent) (old new : ServerState) → RunsTurns below applied old new → below ≤ 8 → Within client 20518 old → Within client (20518 + 4134 * below) new
+turns_within same client zero applied old new turns most h = subst (λ (s : ServerState). Within client 20518 s) (sym turns.1) h
 turns_within same client (suc n) applied old new turns most h =
     let before = turns_within same client n turns.0 old turns.2 turns.4 (omega (arith, most)) h in
-    within_more client (35558 + 2790 * n + 2790) (35558 + 2790 * suc n) new (omega arith)
-    (turns_of_within same client n (35558 + 2790 * n) turns.1 turns.2 new turns.5 (omega arith) (omega (arith, most)) before)
+    within_more client (20518 + 4134 * n + 4134) (20518 + 4134 * suc n) new (omega arith)
+    (turns_of_within same client n (20518 + 4134 * n) turns.1 turns.2 new turns.5 (omega arith) (omega (arith, most)) before)
 
-track_within : Limits → (client : ℕ) (pace : Pace) (readings : List ℕ) (applied : List LoggedEvent) (old new : ServerState) → RunsTrack pace readings applied old new → Within client 35558 old → Within client 57878 new
+track_within : Limits → (client : ℕ) (pace : Pace) (readings : List ℕ) (applied : List LoggedEvent) (old new : ServerState) → RunsTrack pace readings applied old new → Within client 20518 old → Within client 53590 new
 track_within same client (AfterMessages turns) readings applied old new h within = turns_within same client 8 applied old new h.1 (omega arith) within
 track_within same client (RealTime rate) readings applied old new h within =
     let time = h.2 in
-    let ran : Within client 38348 (with_time_due (h.0 - time.1) time.2) = steps_within same is_piece piece_is_step client 35558 time.0 applied (with_time_due h.0 old) time.2 time.3 (omega arith) (omega arith) within in
-    subst (λ (s : ServerState). Within client 57878 s) (sym time.6) (within_more client 38348 57878 (with_time_due (h.0 - time.1) time.2) (omega arith) ran)
+    let ran : Within client 24652 (with_time_due (h.0 - time.1) time.2) = steps_within same is_piece piece_is_step client 20518 time.0 applied (with_time_due h.0 old) time.2 time.3 (omega arith) (omega arith) within in
+    subst (λ (s : ServerState). Within client 53590 s) (sym time.6) (within_more client 24652 53590 (with_time_due (h.0 - time.1) time.2) (omega arith) ran)
 
 -- Booleans.
 
@@ -404,27 +404,27 @@ leaves_within client other n observed old new runs h =
 
 -- what is read closes no connection
 abbrev ReadOne : (client n : ℕ) → TransportEvent → ServerState → Type 0
-ReadOne client n log new = Within client (n + 3579) new × (is_closed client log ≡ false)
+ReadOne client n log new = Within client (n + 4923) new × (is_closed client log ≡ false)
 
-received_within : Limits → (client reader byte n : ℕ) (applied : List LoggedEvent) (old new : ServerState) → RunsEventWithReports (Receives reader byte) applied old new → n + 3579 ≤ 65536 → Sized client n old
-    → Within client (n + 3579) new
+received_within : Limits → (client reader byte n : ℕ) (applied : List LoggedEvent) (old new : ServerState) → RunsEventWithReports (Receives reader byte) applied old new → n + 4923 ≤ 65536 → Sized client n old
+    → Within client (n + 4923) new
 received_within same client reader byte n applied old new runs room h =
     let first = first_event (Receives reader byte) applied old new runs.1 runs.2 in
     let ready = when_none_due client n old (none_due (Receives reader byte) first.0 old first.1 refl first.3) h in
-    reports_within client (n + 3579) first.2 first.1 new first.5 first.4 room (receives_within same client reader byte n first.0 old first.1 first.3 room ready)
+    reports_within client (n + 4923) first.2 first.1 new first.5 first.4 room (receives_within same client reader byte n first.0 old first.1 first.3 room ready)
 
-left_within : (client reader n : ℕ) (applied : List LoggedEvent) (old new : ServerState) → RunsEventWithReports (Disconnects reader) applied old new → Sized client n old → Within client (n + 3579) new
+left_within : (client reader n : ℕ) (applied : List LoggedEvent) (old new : ServerState) → RunsEventWithReports (Disconnects reader) applied old new → Sized client n old → Within client (n + 4923) new
 left_within client reader n applied old new runs h =
     let leaves = only_leaves reader applied old new runs in
-    within_more client n (n + 3579) new (omega arith)
+    within_more client n (n + 4923) new (omega arith)
     (leaves_within client reader n leaves.0 old new leaves.1 (when_none_due client n old (none_due (Disconnects reader) leaves.0 old new refl leaves.1) h))
 
-read_one : Limits → (client reader n : ℕ) (log : TransportEvent) (applied : List LoggedEvent) (old new : ServerState) → Applies log applied old new → is_read reader log ≡ true → n + 3579 ≤ 65536 → Sized client n old
+read_one : Limits → (client reader n : ℕ) (log : TransportEvent) (applied : List LoggedEvent) (old new : ServerState) → Applies log applied old new → is_read reader log ≡ true → n + 4923 ≤ 65536 → Sized client n old
     → ReadOne client n log new
 read_one same client reader n (Received i byte) applied old new does is room h = (received_within same client i byte n applied (with_backlog old) new does.1 room h, refl)
 read_one same client reader n (PeerClosed i) applied old new does is room h = (left_within client i n applied old new does h, refl)
 read_one same client reader n (ReadBlocked i) applied old new does is room h =
-    (subst (λ (s : ServerState). Within client (n + 3579) s) (sym does.1) (within_more client (n + 2790) (n + 3579) old (omega arith) (as_within client n old h)), refl)
+    (subst (λ (s : ServerState). Within client (n + 4923) s) (sym does.1) (within_more client (n + 4134) (n + 4923) old (omega arith) (as_within client n old h)), refl)
 read_one same client reader n (Polled longest) applied old new does is room h = cc
 read_one same client reader n (Accepted i) applied old new does is room h = cc
 read_one same client reader n (Written i written) applied old new does is room h = cc
@@ -434,7 +434,7 @@ read_one same client reader n NonePending applied old new does is room h = cc
 read_one same client reader n Refused applied old new does is room h = cc
 
 -- and then it is read on
-read_on : (client reader n : ℕ) (old new : ServerState) → IsReadOn reader old new → 32768 ≤ n → Sized client n old → Within client (n + 3579) new → Sized client n new
+read_on : (client reader n : ℕ) (old new : ServerState) → IsReadOn reader old new → 16384 ≤ n → Sized client n old → Within client (n + 4923) new → Sized client n new
 read_on client reader n old new on most before h = elim on.1 [
   | inl none ↦ (h.0, omega (arith, most, uncrowded_at new.queues client none), h.2, h.3)
   | inr same ↦ (h.0, subst (λ (all : SendQueues). length (queued (slice_index_or all client None)) ≤ n) (sym same) before.1, h.2, h.3)
@@ -444,27 +444,27 @@ read_on client reader n old new on most before h = elim on.1 [
 abbrev ReadAll : (client n : ℕ) → List Handled → ServerState → Type 0
 ReadAll client n handled new = Sized client n new × (list_any (is_closed client) (transport_events handled) ≡ false)
 
-reads_on : Limits → (client reader n : ℕ) (handled : List Handled) (old new : ServerState) → ReadsOn reader handled old new → 32768 ≤ n → n + 3579 ≤ 65536 → Sized client n old → ReadAll client n handled new
+reads_on : Limits → (client reader n : ℕ) (handled : List Handled) (old new : ServerState) → ReadsOn reader handled old new → 16384 ≤ n → n + 4923 ≤ 65536 → Sized client n old → ReadAll client n handled new
 reads_on same client reader n [] old new reads most room h = (subst (λ (s : ServerState). Sized client n s) (sym reads) h, refl)
 reads_on same client reader n (one ∷ handled) old new reads most room h =
     let first = read_one same client reader n one.log one.applied old reads.0 reads.2 reads.1 room h in
     let rest = reads_on same client reader n handled reads.0 new reads.4 most room (read_on client reader n old reads.0 reads.3 most h first.0) in
     (rest.0, none_of_both (is_closed client one.log) (list_any (is_closed client) (transport_events handled)) first.1 rest.1)
 
-reads : Limits → (client reader : ℕ) (handled : List Handled) (old new : ServerState) → Reads reader handled old new → Within client 58535 old
+reads : Limits → (client reader : ℕ) (handled : List Handled) (old new : ServerState) → Reads reader handled old new → Within client 54247 old
     → Within client 65536 new × (list_any (is_closed client) (transport_events handled) ≡ false)
 reads same client reader handled old new does h = elim does [
   | inl waits ↦ (
-    subst (λ (s : ServerState). Within client 65536 s) (sym waits.2) (within_more client 58535 65536 old (omega arith) h),
+    subst (λ (s : ServerState). Within client 65536 s) (sym waits.2) (within_more client 54247 65536 old (omega arith) h),
     subst (λ (all : List Handled). list_any (is_closed client) (transport_events all) ≡ false) (sym waits.1) refl,
   )
   | inr (inl all) ↦
-      let read = reads_on same client reader 58535 handled old new all.1 (omega arith) (omega arith) (as_sized client 58535 old h) in
-      (within_more client 61325 65536 new (omega arith) (as_within client 58535 new read.0), read.1)
+      let read = reads_on same client reader 54247 handled old new all.1 (omega arith) (omega arith) (as_sized client 54247 old h) in
+      (within_more client 58381 65536 new (omega arith) (as_within client 54247 new read.0), read.1)
   | inr (inr ends) ↦
-      let before = reads_on same client reader 58535 ends.1 old ends.3 ends.6 (omega arith) (omega arith) (as_sized client 58535 old h) in
-      let last = read_one same client reader 58535 ends.2.log ends.2.applied ends.3 new ends.8 ends.7 (omega arith) before.0 in (
-        within_more client 62114 65536 new (omega arith) last.0,
+      let before = reads_on same client reader 54247 ends.1 old ends.3 ends.6 (omega arith) (omega arith) (as_sized client 54247 old h) in
+      let last = read_one same client reader 54247 ends.2.log ends.2.applied ends.3 new ends.8 ends.7 (omega arith) before.0 in (
+        within_more client 59170 65536 new (omega arith) last.0,
         subst (λ (all : List Handled). list_any (is_closed client) (transport_events all) ≡ false) (sym ends.4)
             (ap (list_any (is_closed client)) (log-append ends.1 (ends.2 ∷ [])) ∙ list_any-append (is_closed client) (transport_events ends.1) (ends.2.log ∷ [])
             ∙ none_of_both (list_any (is_closed client) (transport_events ends.1)) (list_any (is_closed client) (ends.2.log ∷ [])) before.1 (none_of_both (is_closed client ends.2.log) false last.1 refl)),
@@ -539,10 +539,10 @@ abbrev is_accepting : (client : ℕ) → TransportEvent → Bool
 is_accepting i (Accepted client) = client == i
 is_accepting i other = false
 
-accepted_one : (client : ℕ) (log : TransportEvent) (applied : List LoggedEvent) (old new : ServerState) → Applies log applied old new → is_accepting client log ≡ true → Within client 65536 old → Within client 3579 new
+accepted_one : (client : ℕ) (log : TransportEvent) (applied : List LoggedEvent) (old new : ServerState) → Applies log applied old new → is_accepting client log ≡ true → Within client 65536 old → Within client 4923 new
 accepted_one client (Accepted i) applied old new does is h =
     let joins = only_joins i applied (with_backlog old) new does.1 in
-    within_more client 26 3579 new (omega arith) (joined_within client joins.0 (with_backlog old) new (subst (λ (k : ℕ). RunsEvent (Connects k) joins.0 (with_backlog old) new) (eqb-true i client is) joins.1) h.0 h.3.1)
+    within_more client 26 4923 new (omega arith) (joined_within client joins.0 (with_backlog old) new (subst (λ (k : ℕ). RunsEvent (Connects k) joins.0 (with_backlog old) new) (eqb-true i client is) joins.1) h.0 h.3.1)
 accepted_one client (Polled longest) applied old new does is h = cc
 accepted_one client (Received i byte) applied old new does is h = cc
 accepted_one client (PeerClosed i) applied old new does is h = cc
@@ -554,14 +554,14 @@ accepted_one client NonePending applied old new does is h = cc
 accepted_one client Refused applied old new does is h = cc
 
 accepted_small : (client : ℕ) (handled : List Handled) (old new : ServerState) → AppliesAll handled old new → IsUnread (transport_events handled) → list_any (is_accepting client) (transport_events handled) ≡ true
-    → Within client 65536 old → Within client 3579 new
+    → Within client 65536 old → Within client 4923 new
 accepted_small client [] old new does unread some h = cc
 accepted_small client (one ∷ handled) old new does unread some h =
     let p = unread_parts (is_reading one.log) (list_any is_reading (transport_events handled)) unread in
     elim (either (is_accepting client one.log) (list_any (is_accepting client) (transport_events handled)) some) [
       | inl now ↦
           let small = accepted_one client one.log one.applied old does.0 does.1 now h in
-          (unread_all client 3579 handled does.0 new does.2 p.1 (omega arith) (omega arith) small).0
+          (unread_all client 4923 handled does.0 new does.2 p.1 (omega arith) (omega arith) small).0
       | inr later ↦
           let first = unread_one client 65536 one.log one.applied old does.0 does.1 p.0 (omega arith) (omega arith) h in
           accepted_small client handled does.0 new does.2 p.1 later first.0
@@ -608,8 +608,8 @@ both_stay client n first second new none h =
     (h.0, list_any-append (is_closed client) first second ∙ none_of_both (list_any (is_closed client) first) (list_any (is_closed client) second) none h.1)
 
 -- A client has at most 3,579 bytes in its queue after it was written to, with the reports that may be due.
-serve_keeps : Limits → (client reader : ℕ) (handled : List Handled) (old new : ServerState) → client < 8 → ServesClient reader handled old new → KeepsUp client (transport_events handled) → Within client 58535 old
-    → StaysUp client 3579 (transport_events handled) new
+serve_keeps : Limits → (client reader : ℕ) (handled : List Handled) (old new : ServerState) → client < 8 → ServesClient reader handled old new → KeepsUp client (transport_events handled) → Within client 54247 old
+    → StaysUp client 4923 (transport_events handled) new
 serve_keeps same client reader handled old new among serve up h =
     let heard = serve.0 in
     let written = serve.1 in
@@ -618,39 +618,39 @@ serve_keeps same client reader handled old new among serve up h =
     let up_written = up_behind client (transport_events heard) (transport_events written) up_log in
     let read = reads same client reader heard old serve.2 serve.4 h in
     let put = unread_all client 65536 written serve.2 new serve.5 serve.6 (omega arith) (omega arith) read.0 in
-    let small : Within client 3579 new = elim (serve.7 client among).0 [
+    let small : Within client 4923 new = elim (serve.7 client among).0 [
       | inl empty ↦ let none : size client new ≡ 0 = ap length empty in (put.0.0, omega (arith, none, put.0.3.0), put.0.2, put.0.3)
       | inr (inl blocked) ↦ accepted_small client written serve.2 new serve.5 serve.6 (blocked_all client (transport_events written) blocked up_written.0) read.0
       | inr (inr four) ↦ absurd (up_written.1 four)
     ] in
-    subst (λ (all : List TransportEvent). StaysUp client 3579 all new) (sym log) (both_stay client 3579 (transport_events heard) (transport_events written) new read.1 (small, put.1))
+    subst (λ (all : List TransportEvent). StaysUp client 4923 all new) (sym log) (both_stay client 4923 (transport_events heard) (transport_events written) new read.1 (small, put.1))
 
 -- the last of some
 last_keeps : Limits → (client n : ℕ) (handled first last : List Handled) (old mid new : ServerState) → client < 8 → handled ≡ first ++ last → ServesClient n last mid new → KeepsUp client (transport_events handled)
-    → (KeepsUp client (transport_events first) → StaysUp client 58535 (transport_events first) mid) → StaysUp client 3579 (transport_events handled) new
+    → (KeepsUp client (transport_events first) → StaysUp client 54247 (transport_events first) mid) → StaysUp client 4923 (transport_events handled) new
 last_keeps same client n handled first last old mid new among both serve up before =
     let log : transport_events handled ≡ transport_events first ++ transport_events last = ap transport_events both ∙ log-append first last in
     let up_log : KeepsUp client (transport_events first ++ transport_events last) = subst (KeepsUp client) log up in
     let so_far = before (up_before client (transport_events first) (transport_events last) up_log) in
     let after = serve_keeps same client n last mid new among serve (up_behind client (transport_events first) (transport_events last) up_log) so_far.0 in
-    subst (λ (all : List TransportEvent). StaysUp client 3579 all new) (sym log) (both_stay client 3579 (transport_events first) (transport_events last) new so_far.1 after)
+    subst (λ (all : List TransportEvent). StaysUp client 4923 all new) (sym log) (both_stay client 4923 (transport_events first) (transport_events last) new so_far.1 after)
 
-serves_keep : Limits → (client first count : ℕ) (handled : List Handled) (old new : ServerState) → client < 8 → ServesClients first count handled old new → KeepsUp client (transport_events handled) → Within client 58535 old
-    → StaysUp client 58535 (transport_events handled) new
+serves_keep : Limits → (client first count : ℕ) (handled : List Handled) (old new : ServerState) → client < 8 → ServesClients first count handled old new → KeepsUp client (transport_events handled) → Within client 54247 old
+    → StaysUp client 54247 (transport_events handled) new
 serves_keep same client first zero handled old new among serves up h =
-    subst (λ (all : List Handled). StaysUp client 58535 (transport_events all) new) (sym serves.0) (subst (λ (s : ServerState). Within client 58535 s) (sym serves.1) h, refl)
+    subst (λ (all : List Handled). StaysUp client 54247 (transport_events all) new) (sym serves.0) (subst (λ (s : ServerState). Within client 54247 s) (sym serves.1) h, refl)
 serves_keep same client first (suc n) handled old new among serves up h =
     let all = last_keeps same client (nth_client first n) handled serves.0 serves.1 old serves.2 new among serves.3 serves.5 up (λ before. serves_keep same client first n serves.0 old serves.2 among serves.4 before h) in
-    (within_more client 3579 58535 new (omega arith) all.0, all.1)
+    (within_more client 4923 54247 new (omega arith) all.0, all.1)
 
 -- all eight are served
-all_served : Limits → (client first : ℕ) (handled : List Handled) (old new : ServerState) → client < 8 → ServesClients first 8 handled old new → KeepsUp client (transport_events handled) → Within client 58535 old
-    → StaysUp client 3579 (transport_events handled) new
+all_served : Limits → (client first : ℕ) (handled : List Handled) (old new : ServerState) → client < 8 → ServesClients first 8 handled old new → KeepsUp client (transport_events handled) → Within client 54247 old
+    → StaysUp client 4923 (transport_events handled) new
 all_served same client first handled old new among all up h =
     let serves : ServesClients first (suc 7) handled old new = all in
     last_keeps same client (nth_client first 7) handled serves.0 serves.1 old serves.2 new among serves.3 serves.5 up (λ before. serves_keep same client first 7 serves.0 old serves.2 among serves.4 before h)
 
-round_keeps : Limits → (client : ℕ) (handled : List Handled) (old new : ServerState) → client < 8 → IsRound handled old new → KeepsUp client (transport_events handled) → Within client 58535 old → StaysUp client 3579 (transport_events handled) new
+round_keeps : Limits → (client : ℕ) (handled : List Handled) (old new : ServerState) → client < 8 → IsRound handled old new → KeepsUp client (transport_events handled) → Within client 54247 old → StaysUp client 4923 (transport_events handled) new
 round_keeps same client handled old new among round up h =
     let early = transport_events round.0 in
     let written = transport_events round.1 in
@@ -661,13 +661,13 @@ round_keeps same client handled old new among round up h =
     ∙ ap (λ (rest : List TransportEvent). early ++ rest) (log-append round.1 (round.2 ++ round.3) ∙ ap (λ (rest : List TransportEvent). written ++ rest) (log-append round.2 round.3)) in
     let up_log : KeepsUp client (early ++ (written ++ (served ++ joined))) = subst (KeepsUp client) log up in
     let up_rest = up_behind client written (served ++ joined) (up_behind client early (written ++ (served ++ joined)) up_log) in
-    let begun = unread_all client 58535 round.0 old round.4 (early_applies round.0 old round.4 round.8) (early_unread round.0 old round.4 round.8) (omega arith) (omega arith) h in
-    let told = unread_all client 58535 round.1 round.4 round.5 round.9.0 round.9.1 (omega arith) (omega arith) begun.0 in
+    let begun = unread_all client 54247 round.0 old round.4 (early_applies round.0 old round.4 round.8) (early_unread round.0 old round.4 round.8) (omega arith) (omega arith) h in
+    let told = unread_all client 54247 round.1 round.4 round.5 round.9.0 round.9.1 (omega arith) (omega arith) begun.0 in
     let read = all_served same client round.5.first_client round.2 round.5 round.6 among round.10 (up_before client served joined up_rest) told.0 in
-    let accepted = unread_all client 3579 round.3 round.6 new (accepts_apply round.3 round.6 new round.11) (accepts_unread round.3 round.6 new round.11) (omega arith) (omega arith) read.0 in
-    subst (λ (all : List TransportEvent). StaysUp client 3579 all new) (sym log)
-    (both_stay client 3579 early (written ++ (served ++ joined)) new begun.1
-    (both_stay client 3579 written (served ++ joined) new told.1 (both_stay client 3579 served joined new read.1 accepted)))
+    let accepted = unread_all client 4923 round.3 round.6 new (accepts_apply round.3 round.6 new round.11) (accepts_unread round.3 round.6 new round.11) (omega arith) (omega arith) read.0 in
+    subst (λ (all : List TransportEvent). StaysUp client 4923 all new) (sym log)
+    (both_stay client 4923 early (written ++ (served ++ joined)) new begun.1
+    (both_stay client 4923 written (served ++ joined) new told.1 (both_stay client 4923 served joined new read.1 accepted)))
 
 -- A round starts: a line of an answer has at most 647 bytes, and that turns have passed is told in 10.
 
@@ -719,15 +719,15 @@ turns_answer_most : (is_over : Bool) → length (if is_over then turns_ok_text e
 turns_answer_most true = omega arith
 turns_answer_most false = omega arith
 
-starts_within : (client : ℕ) (old : ServerState) → Within client 57878 old → Within client 58535 (round_start old)
+starts_within : (client : ℕ) (old : ServerState) → Within client 53590 old → Within client 54247 (round_start old)
 starts_within client old h =
     let line = next_line (lines_of old.names old.nodes old.railway) old.programming (slice_index_or old.answers client None) in
     let owed = due_to old.turns_due client in
     let answer : length (answer_to old client) ≤ 657 =
     omega (arith, next_most old.names old.nodes old.railway old.programming (slice_index_or old.answers client None), turns_answer_most (have_passed owed), length-append line (turns_answer owed)) in
-    texts_within client 57878 58535 (answer_to old) old (round_start old) refl refl h.3 (omega (arith, answer, h.1)) (omega arith) h
+    texts_within client 53590 54247 (answer_to old) old (round_start old) refl refl h.3 (omega (arith, answer, h.1)) (omega arith) h
 
-rounds_keep : Limits → (client most : ℕ) (rounds : List Round) (old new : ServerState) → client < 8 → RunsRounds most rounds old new → KeepsUp client (transport_log rounds) → Within client 57878 old
+rounds_keep : Limits → (client most : ℕ) (rounds : List Round) (old new : ServerState) → client < 8 → RunsRounds most rounds old new → KeepsUp client (transport_log rounds) → Within client 53590 old
     → list_any (is_closed client) (transport_log rounds) ≡ false
 rounds_keep same client most [] old new among h up within = refl
 rounds_keep same client most (round ∷ rounds) old new among h up within =
@@ -735,7 +735,7 @@ rounds_keep same client most (round ∷ rounds) old new among h up within =
     let first = Polled round.longest ∷ transport_events round.handled in
     let up_first = up_behind client (Polled round.longest ∷ []) (transport_events round.handled) (up_before client first (transport_log rounds) up) in
     let served = round_keeps same client round.handled (round_start old) went.1 among went.2 up_first (starts_within client old within) in
-    let ran = track_within same client went.1.pace round.readings round.elapsing went.1 h.1 went.3 (within_more client 3579 35558 went.1 (omega arith) served.0) in
+    let ran = track_within same client went.1.pace round.readings round.elapsing went.1 h.1 went.3 (within_more client 4923 20518 went.1 (omega arith) served.0) in
     let rest = rounds_keep same client most rounds h.1 new among h.3 (up_behind client first (transport_log rounds) up) ran in
     list_any-append (is_closed client) first (transport_log rounds) ∙ none_of_both (list_any (is_closed client) first) (list_any (is_closed client) (transport_log rounds)) served.1 rest
 

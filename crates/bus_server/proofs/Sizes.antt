@@ -14,14 +14,14 @@ use Rattle.layout_core.specs.declared.node.Node.{Node}
 use Rattle.refresh_ring.specs.declared.pick.Power.{Power}
 use Rattle.railway.specs.declared.block.Block.{Block}
 use Rattle.railway.specs.Course.{Happening, after, reports_of}
-use Rattle.railway.specs.Course.Happening.{Elapses as TimeElapses}
+use Rattle.railway.specs.Course.Happening.{Elapses as TimeElapses, FailuresEnd, Places, SensorFails, TurnoutFails}
 use Rattle.railway.specs.declared.joint.TurnoutState.{TurnoutState}
 use Rattle.railway.specs.declared.turnout_report.TurnoutReport.{TurnoutReport}
 use Rattle.railway.specs.Feedback as turnout
 use Rattle.railway.specs.Feedback.{full_turnouts, is_with_feedback, movement_of, movements, turnout_report_bytes, requested_switch, side_report, state_bytes, state_answer}
 use Rattle.railway.specs.Network.{turnouts_of}
-use Rattle.railway.specs.Railway.{RailwayState, elapsed, is_sensed}
-use Rattle.railway.specs.Reports.{change_of, changes, changes_from, full_from, level_of, onto}
+use Rattle.railway.specs.Railway.{RailwayState, elapsed, is_sensed, is_sensed_in}
+use Rattle.railway.specs.Reports.{change_of, changes, changes_from, changes_through, full_from, level_of, onto}
 use Rattle.text.specs.Hex.{hex_words}
 use Rattle.loconet_tcp.specs.ClientLines.{device_text, line_end, place_text, receive_text, sent_error_text, sent_ok_text, turns_text}
 use Rattle.loconet_tcp.specs.Reading.{request_of_byte}
@@ -272,6 +272,16 @@ full_from_most is i (block ∷ blocks) =
 changes_most : (blocks : List Block) (was is : ℕ → Bool) → length blocks ≤ 64 → length (changes blocks was is) ≤ 64
 changes_most blocks was is few = omega (arith, few, length-append (changes_from true was is 0 blocks) (changes_from false was is 0 blocks), each_once was is 0 blocks)
 
+-- in a time it becomes occupied at most once, and then free
+from_most : (level : Bool) (was is : ℕ → Bool) (i : ℕ) (blocks : List Block) → length (changes_from level was is i blocks) ≤ length blocks
+from_most level was is i [] = omega arith
+from_most level was is i (block ∷ blocks) =
+    omega (arith, from_most level was is (i + 1) blocks, onto_most (change_of level block.sensor (was i) (is i)) (changes_from level was is (i + 1) blocks))
+
+through_most : (blocks : List Block) (was sensed is : ℕ → Bool) → length blocks ≤ 64 → length (changes_through blocks was sensed is) ≤ 128
+through_most blocks was sensed is few =
+    omega (arith, few, length-append (changes_from true was sensed 0 blocks) (changes_from false sensed is 0 blocks), from_most true was sensed 0 blocks, from_most false sensed is 0 blocks)
+
 -- and a turnout comes to lie at most once
 turnout_onto : (report : Option TurnoutReport) (reports : List TurnoutReport) → length (turnout.onto report reports) ≤ length reports + 1
 turnout_onto None reports = omega arith
@@ -290,9 +300,10 @@ full_turnouts_most (state ∷ states) = omega (arith, full_turnouts_most states,
 abbrev pub HasFewParts : Option RailwayState → Type 0
 HasFewParts railway = IfSome railway AreFewParts
 
-elapsed_most : (railway : Option RailwayState) (micros : ℕ) (power : Power) (nodes : List Node) → HasFewParts railway → length (reports_elapsed railway micros power nodes) ≤ 64
+elapsed_most : (railway : Option RailwayState) (micros : ℕ) (power : Power) (nodes : List Node) → HasFewParts railway → length (reports_elapsed railway micros power nodes) ≤ 128
 elapsed_most None micros power nodes few = omega arith
-elapsed_most (Some railway) micros power nodes few = changes_most railway.network.blocks (is_sensed railway) (is_sensed (elapsed railway micros power nodes)) few.blocks
+elapsed_most (Some railway) micros power nodes few =
+    through_most railway.network.blocks (is_sensed railway) (is_sensed_in railway micros power nodes) (is_sensed (elapsed railway micros power nodes)) few.blocks
 
 moved_most : (railway : Option RailwayState) (micros : ℕ) (power : Power) (nodes : List Node) → HasFewParts railway → length (movements_elapsed railway micros power nodes) ≤ 64
 moved_most None micros power nodes few = omega arith
@@ -307,33 +318,41 @@ turnouts_full_most : (railway : Option RailwayState) → HasFewParts railway →
 turnouts_full_most None few = omega arith
 turnouts_full_most (Some railway) few = let most = few.turnouts in omega (arith, most, full_turnouts_most railway.network.turnouts)
 
-sensors_most : (reports : List SensorReport) → length reports ≤ 64 → owed (of_sensors reports) ≤ 2790
+sensors_most : (reports : List SensorReport) → length reports ≤ 128 → owed (of_sensors reports) ≤ 4134
 sensors_most reports few = omega (arith, few, owed_sensors reports)
 
-asked_most : (asks : Bool) (railway : Option RailwayState) → HasFewParts railway → owed (if asks then full_reports railway else []) ≤ 2790
+asked_most : (asks : Bool) (railway : Option RailwayState) → HasFewParts railway → owed (if asks then full_reports railway else []) ≤ 4134
 asked_most true railway few =
     let sensors : List SensorReport = full_report railway in
     let turnouts : List TurnoutReport = turnout_report railway in
     omega (arith, owed-append (of_sensors sensors) (of_turnouts turnouts), owed_sensors sensors, owed_turnouts turnouts, full_most railway few, turnouts_full_most railway few)
 asked_most false railway few = omega arith
 
-happened_most : (happening : Happening) (railway : RailwayState) → AreFewParts railway → owed (of_sensors (reports_of railway happening)) ≤ 2790
-happened_most happening railway few =
-    let new : RailwayState = after railway happening in
-    sensors_most (changes railway.network.blocks (is_sensed railway) (is_sensed new)) (changes_most railway.network.blocks (is_sensed railway) (is_sensed new) few.blocks)
+happened_most : (happening : Happening) (railway : RailwayState) → AreFewParts railway → owed (of_sensors (reports_of railway happening)) ≤ 4134
+happened_most happening railway few = sensors_most (reports_of railway happening) (by happening) where
+  changed : (new : RailwayState) → length (changes railway.network.blocks (is_sensed railway) (is_sensed new)) ≤ 128
+  changed new = let most = changes_most railway.network.blocks (is_sensed railway) (is_sensed new) few.blocks in omega (arith, most)
 
-placed_most : (names : List (List ℕ)) (client : ℕ) (placement : Result Placement PlaceError) (railway : Option RailwayState) → HasFewParts railway → owed (reports_due names (PlaceRequested client placement) railway []) ≤ 2790
+  by : (one : Happening) → length (reports_of railway one) ≤ 128
+  by (TimeElapses micros power nodes) =
+      through_most railway.network.blocks (is_sensed railway) (is_sensed_in railway micros power nodes) (is_sensed (elapsed railway micros power nodes)) few.blocks
+  by (Places train position) = changed (after railway (Places train position))
+  by (SensorFails sensor occupied) = changed (after railway (SensorFails sensor occupied))
+  by (TurnoutFails switch) = changed (after railway (TurnoutFails switch))
+  by FailuresEnd = changed (after railway FailuresEnd)
+
+placed_most : (names : List (List ℕ)) (client : ℕ) (placement : Result Placement PlaceError) (railway : Option RailwayState) → HasFewParts railway → owed (reports_due names (PlaceRequested client placement) railway []) ≤ 4134
 placed_most names client (Err error) None few = omega arith
 placed_most names client (Err error) (Some railway) few = omega arith
 placed_most names client (Ok placement) None few = omega arith
 placed_most names client (Ok placement) (Some railway) few = happened_most (places names railway placement) railway few
 
-device_due_most : (happening : Option Happening) (railway : Option RailwayState) → HasFewParts railway → owed (due_of happening railway []) ≤ 2790
+device_due_most : (happening : Option Happening) (railway : Option RailwayState) → HasFewParts railway → owed (due_of happening railway []) ≤ 4134
 device_due_most None railway few = omega arith
 device_due_most (Some happening) None few = omega arith
 device_due_most (Some happening) (Some railway) few = happened_most happening railway few
 
-requested_most : (names : List (List ℕ)) (bus : BusState) (client : ℕ) (request : Option Request) (railway : Option RailwayState) → HasFewParts railway → owed (reports_due names (outcome_of_request bus client request) railway []) ≤ 2790
+requested_most : (names : List (List ℕ)) (bus : BusState) (client : ℕ) (request : Option Request) (railway : Option RailwayState) → HasFewParts railway → owed (reports_due names (outcome_of_request bus client request) railway []) ≤ 4134
 requested_most names bus client None railway few = omega arith
 requested_most names bus client (Some (Invalid reason)) railway few = omega arith
 requested_most names bus client (Some (Send message)) railway few = asked_most (begins_interrogation message) railway few
@@ -356,7 +375,7 @@ ends_most laws None micros short = omega arith
 ends_most laws (Some bench) micros short = omega (arith, laws.ends micros bench.track, short)
 
 time_most : Limits → (railway : Option RailwayState) (programming : Option BenchState) (micros : ℕ) (power : Power) (nodes : List Node) → HasFewParts railway → micros ≤ 10740
-    → owed (reports_of_time railway programming micros power nodes) ≤ 2790
+    → owed (reports_of_time railway programming micros power nodes) ≤ 4134
 time_most laws railway programming micros power nodes few short =
     let reports : List SensorReport = reports_elapsed railway micros power nodes in
     let turnouts : List TurnoutReport = movements_elapsed railway micros power nodes in
@@ -370,7 +389,7 @@ next_most : Limits → (bus : BusState) → next_turn bus ≤ 10740
 next_most laws bus = let longest = laws.turns.longest bus.station in omega (arith, longest)
 
 made_most : Limits → (names : List (List ℕ)) (bus : BusState) (nodes : List Node) (event : Event) (railway : Option RailwayState) (programming : Option BenchState) → is_event event ≡ true → HasFewParts railway
-    → owed (reports_after names bus nodes event railway programming) ≤ 2790
+    → owed (reports_after names bus nodes event railway programming) ≤ 4134
 made_most laws names bus nodes (Connects client) railway programming legal few = omega arith
 made_most laws names bus nodes (Receives client byte) railway programming legal few = requested_most names bus client (request_at (client_of bus client) byte) railway few
 made_most laws names bus nodes (Disconnects client) railway programming legal few = omega arith
@@ -444,12 +463,12 @@ made_due (Programs packet change) observed old new none runs = cc
 made_due (Elapses micros missed) observed old new none runs = runs.unreported.1
 made_due (Turn missed) observed old new none runs = runs.unreported.1
 
--- what is due is at most 2,790 bytes, and the railway has at most 64 blocks and turnouts
+-- what is due is at most 4,134 bytes, and the railway has at most 64 blocks and turnouts
 abbrev pub HasFew : ServerState → Type 0
-HasFew state = (owed state.unreported ≤ 2790) × HasFewParts state.railway
+HasFew state = (owed state.unreported ≤ 4134) × HasFewParts state.railway
 
 pub event_few : Limits → (event : Event) (observed : Observation) (old new : ServerState) → is_report event ≡ false → RunsEvent event observed old new → HasFewParts old.railway → HasFew new
 event_few same event observed old new none runs few = (
-  subst (λ (items : List DeviceReport). owed items ≤ 2790) (sym (made_due event observed old new none runs)) (made_most same old.names old.bus (running_in event old.nodes new.nodes) event old.railway old.programming runs.legal few),
+  subst (λ (items : List DeviceReport). owed items ≤ 4134) (sym (made_due event observed old new none runs)) (made_most same old.names old.bus (running_in event old.nodes new.nodes) event old.railway old.programming runs.legal few),
   subst HasFewParts (sym runs.railway) (still_few same old.names old.bus (running_in event old.nodes new.nodes) event old.railway few),
 )

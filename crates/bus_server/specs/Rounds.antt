@@ -82,12 +82,12 @@ is_last_read (PeerClosed client) = true
 is_last_read (ReadBlocked client) = true
 is_last_read other = false
 
--- After an event of a client it is read on: it waits for no turns, and no queue is more than half full, unless the event
+-- After an event of a client it is read on: it waits for no turns, and no queue is more than a quarter full, unless the event
 -- enqueued nothing.
 abbrev pub IsReadOn : (client : ℕ) → (old new : ServerState) → Type 0
 IsReadOn client old new = (waits new client ≡ false) × ((is_crowded new ≡ false) ⊎ (new.queues ≡ old.queues))
 
--- Or it is not: there are no more bytes, it waits for turns, or a queue is more than half full.
+-- Or it is not: there are no more bytes, it waits for turns, or a queue is more than a quarter full.
 abbrev pub IsReadLater : (client : ℕ) → TransportEvent → ServerState → Type 0
 IsReadLater client log new = (is_last_read log ≡ true) ⊎ (waits new client ≡ true) ⊎ (is_crowded new ≡ true)
 

@@ -10,9 +10,9 @@ queued (Some bytes) = bytes
 abbrev pub is_within_capacity : Option (List ℕ) → Bool
 is_within_capacity send_queue = nat_le (length (queued send_queue)) 65536
 
--- more than half full
-abbrev pub is_more_than_half : Option (List ℕ) → Bool
-is_more_than_half send_queue = nat_lt 32768 (length (queued send_queue))
+-- more than a quarter full
+abbrev pub is_more_than_quarter : Option (List ℕ) → Bool
+is_more_than_quarter send_queue = nat_lt 16384 (length (queued send_queue))
 
 -- A text is enqueued. A queue that would have more than 65,536 bytes is closed (own).
 abbrev pub enqueued : List ℕ → Option (List ℕ) → Option (List ℕ)

@@ -25,7 +25,7 @@ use Rattle.bus_server.specs.Answers.{Answers, after_line, answers_after, count_o
 use Rattle.bus_server.specs.Placement.{answered}
 use Rattle.bus_server.specs.Programming.{programmed}
 use Rattle.bus_server.specs.Sensors.{IsDue, IsWithinTurn, is_report, programming_after, railway_after, reports_after, running_in}
-use Rattle.bus_server.specs.SendQueue.{is_more_than_half}
+use Rattle.bus_server.specs.SendQueue.{is_more_than_quarter}
 use Rattle.bus_server.specs.SendQueues.{SendQueues, enqueued_from, queues_after}
 use Rattle.bus_server.specs.TransportEvents.{Polled, ServerClosed, Accepted, PeerClosed, TransportEvent, Written, Received, Refused}
 
@@ -143,9 +143,9 @@ is_accepted state other = true
 abbrev pub has_overflowed : ServerState → (client : ℕ) → Bool
 has_overflowed state client = is_connected state client && not (is_some (slice_index_or state.queues client None))
 
--- a queue is more than half full
+-- a queue is more than a quarter full
 abbrev pub is_crowded : ServerState → Bool
-is_crowded state = list_any is_more_than_half state.queues
+is_crowded state = list_any is_more_than_quarter state.queues
 
 -- turns are left that follow a message
 abbrev pub has_turns_to_follow : ServerState → Bool

@@ -23,14 +23,14 @@ abbrev pub RunsStep : (is_step : Event → Bool) → List LoggedEvent → Server
 RunsStep is_step applied old new =
     (event : Event) × (is_step event ≡ true) × IsWithReports event (events_of applied) × RunsEvents applied old new
 
--- a number of steps; each after the first begins only while no queue is more than half full
+-- a number of steps; each after the first begins only while no queue is more than a quarter full
 abbrev pub RunsSteps : (is_step : Event → Bool) → (count : ℕ) → List LoggedEvent → ServerState → ServerState → Type 0
 RunsSteps is_step zero applied old new = (applied ≡ []) × (new ≡ old)
 RunsSteps is_step (suc n) applied old new =
     (before last : List LoggedEvent) × (mid : ServerState) × (applied ≡ before ++ last) × RunsSteps is_step n before old mid
     × (0 < n → is_crowded mid ≡ false) × RunsStep is_step last mid new
 
--- so many steps of one round: all that was due, a hundred, or fewer and then a queue is more than half full
+-- so many steps of one round: all that was due, a hundred, or fewer and then a queue is more than a quarter full
 abbrev pub IsShare : (count run owed : ℕ) → ServerState → Type 0
 IsShare count run owed new =
     (run ≤ owed) × (count ≤ 100) × ((run ≡ owed) ⊎ (count ≡ 100) ⊎ ((0 < count) × (is_crowded new ≡ true)))

@@ -289,13 +289,13 @@ impl Hub {
         self.pace.follows_messages() && !self.track_due.follow_message()
     }
 
-    /// Whether a queue is more than half full.
+    /// Whether a queue is more than a quarter full.
     pub(crate) fn is_crowded(&self) -> bool
         ensures { result ≡ is_crowded (state_of self.now) }
     {
         self.queues
             .iter()
-            .any(|queue| queue.is_more_than_half_full())
+            .any(|queue| queue.is_more_than_quarter_full())
     }
 
     /// Whether a client, 0 to 7, is connected and its queue has overflowed.

@@ -1,6 +1,6 @@
 //! The text that is queued for a client.
 ghost use Rattle.std.specs.Prelude.{◌≡◌, ◌<◌, ◌≤◌, IfOk, Some, None, [], true, drop, is_some, length, take};
-ghost use Rattle.bus_server.specs.SendQueue.{enqueued, is_more_than_half, queued};
+ghost use Rattle.bus_server.specs.SendQueue.{enqueued, is_more_than_quarter, queued};
 
 use circular_buffer::HeapCircularBuffer;
 use std::alloc::{AllocError, Global};
@@ -68,11 +68,11 @@ impl SendQueue {
         self.is_open
     }
 
-    /// Whether more than half of the room is taken.
-    pub fn is_more_than_half_full(&self) -> bool
-        ensures { result ≡ is_more_than_half self.now }
+    /// Whether more than a quarter of the room is taken.
+    pub fn is_more_than_quarter_full(&self) -> bool
+        ensures { result ≡ is_more_than_quarter self.now }
     {
-        self.is_open && self.bytes.len() > QUEUE_CAPACITY / 2
+        self.is_open && self.bytes.len() > QUEUE_CAPACITY / 4
     }
 
     /// Appends a text, if the queue is open. Closes the queue if the text has no room.

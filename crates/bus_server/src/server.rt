@@ -365,7 +365,7 @@ impl Server {
     }
 
     /// Reads a byte of a client and applies it. Returns whether the client is to be read on: not if there are no more bytes, it
-    /// waits for turns, or a queue is more than half full.
+    /// waits for turns, or a queue is more than a quarter full.
     fn receive_byte<W: Transport, P: Observer>(
         &mut self,
         client: u8,

@@ -63,7 +63,8 @@ impl Server {
         Ok(())
     }
 
-    /// Runs turns, `owed` or a hundred at most, and none but the first while a queue is more than half full. Returns how many.
+    /// Runs turns, `owed` or a hundred at most, and none but the first while a queue is more than a
+    /// quarter full. Returns how many.
     fn run_up_to<P: Observer>(&mut self, owed: u16, observer: &mut P) -> Result<u16, P::Fault>
         requires some { 0 < owed }
         requires observes { ObservesLayout (P.decoder_specs observer.old) self.old.hub }
@@ -110,8 +111,9 @@ impl Server {
         Ok(())
     }
 
-    /// Runs the track for `owed` microseconds in pieces, a hundred at most, and none but the first while a queue is more than half
-    /// full. No piece is longer than the turn under way, so that trains run as the decoders do. Returns how much is left.
+    /// Runs the track for `owed` microseconds in pieces, a hundred at most, and none but the first while
+    /// a queue is more than a quarter full. No piece is longer than the turn under way, so that trains
+    /// run as the decoders do. Returns how much is left.
     fn run_pieces<P: Observer>(&mut self, owed: u32, observer: &mut P) -> Result<u32, P::Fault>
         requires observes { ObservesLayout (P.decoder_specs observer.old) self.old.hub }
         requires reported { HasReported self.old.hub }

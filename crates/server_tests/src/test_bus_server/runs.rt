@@ -392,8 +392,8 @@ fn check_flood_entries<R: Place>(rt: &R, entries: &[Entry]) {
 
 fn check_flood_observed<R: Place>(rt: &R, observed: &[Seen]) {
     assert!(rt; overflows(rt, observed).as_slice() == [2].as_slice());
-    // 26 bytes and 4,367 lines of 15 are 65,531 bytes: line 4,368 has no room, and the queue is closed. While it was more than half
-    // full, one message was read in a round. Then the rest of the 400 bytes is read, as far as message 4,400.
+    // 26 bytes and 4,367 lines of 15 are 65,531 bytes: line 4,368 has no room, and the queue is closed. While it was more than a
+    // quarter full, one message was read in a round. Then the rest of the 400 bytes is read, as far as message 4,400.
     assert!(rt; messages_before_overflow(observed) == 4_400);
     assert!(rt; disconnects_by_overflow(observed, 2));
     assert!(rt; messages(observed) == u64::from(LINES));

@@ -5,7 +5,7 @@ use Rattle.bus_server.specs.Snapshots.{IsObserved, ObservesLayout, state_of, Has
 use Rattle.bus_server.specs.Track.{RunsSteps, is_piece}
 use Rattle.bus_server.proofs.server.Server.run_pieces.Given as goal
 
--- so many pieces have elapsed, none left a queue more than half full, and the rest is still to elapse
+-- so many pieces have elapsed, none left a queue more than a quarter full, and the rest is still to elapse
 abbrev pub invariant-loop-piece : goal.invariant-loop-piece
 invariant-loop-piece g l = record {
   observes : ObservesLayout (g.P.Observer.decoder_specs l.observer) l.self.hub;

@@ -4,7 +4,7 @@ use Rattle.bus_server.specs.Snapshots.{IsObserved, ObservesLayout, state_of, Has
 use Rattle.bus_server.specs.Track.{RunsSteps, is_turn}
 use Rattle.bus_server.proofs.server.Server.run_up_to.Given as goal
 
--- so many turns were run, and none left a queue more than half full
+-- so many turns were run, and none left a queue more than a quarter full
 abbrev pub invariant-loop-turn : goal.invariant-loop-turn
 invariant-loop-turn g l = record {
   observes : ObservesLayout (g.P.Observer.decoder_specs l.observer) l.self.hub;
