@@ -6,16 +6,17 @@ ghost use Rattle.railway.specs.Trains.{is_movable, running_in, turns_round};
 
 use crate::reading::running;
 use crate::train::{TrainState, drive, is_forward};
-use layout_core::{Running, World};
+use layout_core::World;
 
 impl TrainState {
     /// Whether it is to turn round: its motor runs the other way, and has momentum.
-    fn turns_round(&self, running: Option<Running>) -> bool
-        ensures { result ≡ turns_round running self.now }
+    fn turns_round(&self, world: &World) -> bool
+        ensures { result
+            ≡ turns_round (running_in world.now.nodes self.now.decoder) self.now }
     {
         self.momentum.is_some()
             && self.velocity.speed > 0
-            && self.velocity.forward != is_forward(running)
+            && self.velocity.forward != is_forward(running(world, self.decoder))
     }
 
     /// Returns how long of a time it goes one way: until it stands, if it is to turn round.
@@ -26,11 +27,11 @@ impl TrainState {
         ensures part { result ≤ micros }
         ensures one_way { (k : ℕ) → k ≤ result → IsTrue (is_one_way world.now.nodes k self.now) }
     {
-        let running = running(world, self.decoder);
-        if !self.turns_round(running) {
+        if !self.turns_round(world) {
             return micros;
         }
-        self.velocity.leg(drive(self, running), micros).micros
+        let drive = drive(self, running(world, self.decoder));
+        self.velocity.leg(drive, micros).micros
     }
 }
 

@@ -147,7 +147,8 @@ impl Railway {
         while left > 0 {
             let piece = self.piece(left, world);
             self.pass_piece(piece, world);
-            sensed = sensed.union(self.sensed());
+            let now = self.sensed();
+            sensed = sensed.union(now);
             left -= piece;
         }
         sensed

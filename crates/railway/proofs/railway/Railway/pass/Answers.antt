@@ -32,7 +32,7 @@ same_blocks c =
 -- what was found before, and now
 marked : (c : goal.After-union-sensed) (block : ℕ) → block < 64 → slice_index_or c.union-sensed.result block false ≡ (slice_index_or c.loop-left.sensed block false || is_sensed c.pass_piece.new.self block)
 marked c block small =
-    c.union-sensed.ensures block small ∙ ap (λ (b : Bool). slice_index_or c.loop-left.sensed block false || b) (c.sensed.ensures block small)
+    c.union-sensed.ensures block small ∙ ap (λ (b : Bool). slice_index_or c.loop-left.sensed block false || b) (c.sensed-now.ensures block small)
 
 pub loop-left-preserved : goal.loop-left-preserved
 loop-left-preserved c =
