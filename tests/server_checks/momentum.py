@@ -8,7 +8,7 @@ one locomotive is driven, so it goes at most 0.16 mm in one. A stop is sent with
 
 from server_checks.common import POWER_OFF, POWER_ON, holds, same, send, serve
 from server_checks.railway import report, reports_in
-from server_checks.trains import CV29, answers, block, driven, files, joint, loco, train
+from server_checks.trains import BACKWARD as REVERSE, CV29, FORWARD, answers, block, drive_all, driven, files, joint, loco, train
 from serving import Client, message_hex
 
 FORWARD_20 = (126, 21, False)
@@ -60,6 +60,29 @@ def braking_ways():
     for length, wanted in ways:
         found = reports_after((length, *QUICK_START), backward, 3 * [LONG])
         same(f"there and back, over {length} mm", found[0] + found[1], wanted)
+
+
+# At 150 mm/s a train goes 0.8694 mm in a turn of an idle packet. By 65,535 mm/s each second it reaches them in 2,289 microseconds,
+# and loses as much way as it needs to brake: in 15 turns and the one in which it turns round it goes 15 * 0.8694 = 13.041 mm,
+# the last 0.17 mm in the last of them, and is back where that began after 4.6 ms.
+TURNS_ROUND, WENT = 15, 13
+
+
+def turns_round_in_a_block():
+    """--plan: a block that a train enters and leaves within a turn, as it turns round, is reported as occupied, then as free"""
+    parts = [
+        block("line", 1000, 1) + block("section", 1000, 2),
+        joint("line.b", "section.a"),
+        train("loco", "line", 500, "b", 100, 150) + "acceleration = 65535\nbraking = 65535\n",
+    ]
+    with files([loco("loco", 1, CV29[126])], parts) as options:
+        with serve(*options, "--turns", "0") as server, Client(server) as client:
+            for ahead, wanted in ((WENT + 1, []), (WENT, [report(2, True), report(2, False)])):
+                drive_all(client, [FORWARD])
+                answers(client, [f"PLACE loco line {1000 - ahead} b"])
+                same(f"{ahead} mm, before", reports_in(answers(client, [f"TURNS {TURNS_ROUND}"])), [])
+                same(f"{ahead} mm", reports_in(answers(client, [*driven(1, *REVERSE), "TURNS 1"])), wanted)
+                same(f"{ahead} mm, then", reports_in(answers(client, ["TURNS 100"])), [])
 
 
 def power_and_momentum():

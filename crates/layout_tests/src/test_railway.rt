@@ -178,7 +178,13 @@ const STOP: Step = Step::Say(&[0xA0, 0x01, 0x00]);
 
 const EMERGENCY: Step = Step::Say(&[0xA0, 0x01, 0x01]);
 
-/// Where the express is put.
+/// Where the express is put: in main, or 150 millimetres from end A of the pier with its rear.
+const REAR_AT_150: Position = Position {
+    block: 1,
+    at: 350,
+    facing: End::B,
+};
+
 const MAIN: Position = Position {
     block: 1,
     at: 600,
@@ -304,6 +310,24 @@ const STORIES: &[(&str, Made, &[Step])] = &[
             Step::Elapse(1_500_000, &[]),
             Step::Speed(150),
             Step::Front(824_999_924_999_999),
+        ],
+    ),
+    // It gathers speed backward to 100.0001 mm/s, brakes, and turns round. In all it goes 150 * 1,000,001 * 1,000,001
+    // femtometres: 150 millimetres and 300,000,150. Before the last 4,000 microseconds 25 * 4,000 * 3,999 are left.
+    // In 6,000 it goes back by 50 * 6,000 * 6,001.
+    (
+        "a train turns round in a block within a turn",
+        Made::Momentum,
+        &[
+            Step::Say(&[0xA1, 0x01, 0x20]),
+            DRIVE,
+            Step::Place(REAR_AT_150, &[]),
+            Step::Elapse(1_000_001, &[]),
+            Step::Say(&[0xA1, 0x01, 0x00]),
+            Step::Elapse(1_996_002, &[]),
+            Step::Rear(99_899_850),
+            Step::Elapse(10_000, &[(1, true), (1, false)]),
+            Step::Rear(1_500_299_850),
         ],
     ),
     (
