@@ -1,9 +1,9 @@
 -- A train whose decoder does the same runs so in one go.
-use Rattle.std.proofs.Common.{◌≡◌, ◌≢◌, ℕ, zero, suc, ◌+◌, ◌-◌, ◌*◌, ◌<◌, ◌≤◌, ◌==◌, ◌||◌, Bool, true, false, not, inl, inr, List, [], ◌∷◌, Option, Some, None, length, map, refl, ap, ap₂, sym, subst, ◌∙◌, arith, length-set}
-use Rattle.std.proofs.lemmas.Bool.{and_from, and_parts, cases_Bool, eqb-true}
-use Rattle.std.proofs.lemmas.List.{get_or-map, get_or-set_other, length-map}
+use Rattle.std.proofs.Common.{◌≡◌, ◌≢◌, ℕ, zero, suc, ◌+◌, ◌*◌, ◌<◌, ◌≤◌, Bool, true, false, not, inl, inr, List, [], ◌∷◌, Option, Some, None, length, map, refl, ap, sym, subst, ◌∙◌, arith, length-set}
+use Rattle.std.proofs.lemmas.Bool.{and_parts, cases_Bool}
+use Rattle.std.proofs.lemmas.List.{get_or-map, get_or-set_other, get_or_default, length-map}
 use Rattle.std.specs.List.{list_all, list_any, slice_index_or}
-use Rattle.std.specs.Prelude.{if◌then◌else◌, IsTrue, nat_le}
+use Rattle.std.specs.Prelude.{if◌then◌else◌, IsTrue, slice_set}
 use Rattle.dcc_packet.specs.declared.address.Address.TheVariants.{Short}
 use Rattle.dcc_packet.specs.declared.steps.Motion.{Motion}
 use Rattle.dcc_packet.specs.declared.steps.Motion.TheVariants.{Stop, Emergency, Step}
@@ -24,24 +24,25 @@ use Rattle.railway.specs.declared.train.Position.{Position}
 use Rattle.railway.specs.declared.train.TrainState.{TrainState}
 use Rattle.railway.specs.Course.{Happening, after, after_all, sensor_failed, unless_refused}
 use Rattle.railway.specs.Course.Happening.{Elapses, FailuresEnd, Places, SensorFails, TurnoutFails}
-use Rattle.railway.specs.Driven.{AllLeaveAlone, AreDrivenBy, HasRun, IsDrivenBy, LeadsTo, LeavesAlone, stays, time_in, time_of, way_asked}
+use Rattle.railway.specs.Driven.{AllLeaveAlone, AreDrivenBy, HasRun, IsDrivenBy, LeadsTo, LeavesAlone, WayStays, trailing_end, next_velocity_of, stays, time_in, time_of, way_asked}
 use Rattle.railway.specs.Failures.{block_with, failing_by, with_failing}
 use Rattle.railway.specs.Laws.{asked_of, runs_only, speed_times_time, way_of}
-use Rattle.railway.specs.Network.{Network, is_sound, marked, way_on}
-use Rattle.railway.specs.Places.{is_derailed, leading_end}
-use Rattle.railway.specs.Railway.{RailwayState, advanced_under, elapsed, is_piece, is_railway, is_train, laid_in, place_fault, placed_in, ran_in, replaced, run_in, run_under}
+use Rattle.railway.specs.Network.{Network, first_at, is_sound, marked, way_on}
+use Rattle.railway.specs.Places.{is_derailed, leading_end, span}
+use Rattle.railway.specs.Railway.{RailwayState, advanced_under, elapsed, is_railway, is_train, laid_in, place_fault, placed_in, ran_in, replaced, run_in, run_through, run_under}
 use Rattle.railway.specs.Running.{ridden, run_for}
 use Rattle.railway.specs.Trains.{default_state, drive_of, is_forward, momentum_at, running_in, speed_at, speed_of}
-use Rattle.railway.specs.Turnouts.{checked, is_calm_for, is_moved, laid, moved_on, observed, same_bool, side_in}
-use Rattle.railway.proofs.Facts.{or-none}
+use Rattle.railway.specs.Turnouts.{advanced, checked, is_moved, laid, moved_on, observed, thrown_under}
+use Rattle.railway.proofs.Elsewhere.{KeepsLying, advanced-changed, for-derailed, moved_on-keeps, moves, observed-keeps, off-way, one-elsewhere, stays-parts}
+use Rattle.railway.proofs.Facts.{not-both}
 use Rattle.railway.proofs.Faulty.{failing-changes, no_turnout}
 use Rattle.railway.proofs.Keeping.{whole-of}
-use Rattle.railway.proofs.Pieces.{for-same-track, piece-run_through, run_through-zero, same-track}
+use Rattle.railway.proofs.Pieces.{for-same-track, same-track}
 use Rattle.railway.proofs.Placing.{all-at}
 use Rattle.railway.proofs.Riding.{movable-of}
-use Rattle.railway.proofs.Running.{in-derails, in-reaches, in-same, in-stops, in-velocity}
+use Rattle.railway.proofs.Running.{in-derails, in-reaches, in-same, in-stops, in-velocity, under-train}
 use Rattle.railway.proofs.Runs.{parts-of}
-use Rattle.railway.proofs.Throwing.{laid-changes, unmoved-trains}
+use Rattle.railway.proofs.Throwing.{changed, checked-derailed, checked-stays, end_of_any, train-changed}
 use Rattle.railway.proofs.Times.{in-in}
 
 -- Decoders of which one runs like this.
@@ -81,72 +82,10 @@ for-zero n running t h = elim (cases_Bool (is_derailed t)) [
       ∙ ap (λ (m : List Bool). record t { under = m }) (sym (whole-of n t (parts-of n t h).whole rails).knows)
 ]
 
--- Turnouts that stay.
-
-abbrev AllStay : List Node → List TurnoutState → Type 0
-AllStay nodes states = list_all (stays nodes) states ≡ true
-
-record Stays (nodes : List Node) (state : TurnoutState) : Type 0 where
-  lies : state.left ≡ 0
-  unmoved : is_moved nodes state ≡ false
-
-not-true : (b : Bool) → not b ≡ true → b ≡ false
-not-true true h = cc
-not-true false h = refl
-
-not-false : (b : Bool) → not b ≡ false → b ≡ true
-not-false true h = refl
-not-false false h = cc
-
-stays-parts : (nodes : List Node) (state : TurnoutState) → stays nodes state ≡ true → Stays nodes state
-stays-parts nodes state h =
-    let parts = and_parts (state.left == 0) (not (is_moved nodes state)) h in
-    record { lies = eqb-true state.left 0 parts.0; unmoved = not-true (is_moved nodes state) parts.1 }
-
-none-moved : (nodes : List Node) (states : List TurnoutState) → AllStay nodes states → list_any (is_moved nodes) states ≡ false
-none-moved nodes [] h = refl
-none-moved nodes (state ∷ states) h =
-    let parts = and_parts (stays nodes state) (list_all (stays nodes) states) h in
-    or-none (is_moved nodes state) (list_any (is_moved nodes) states) (stays-parts nodes state parts.0).unmoved (none-moved nodes states parts.1)
-
-still-lies : (nodes : List Node) (state : TurnoutState) → Stays nodes state → (observed nodes state).left ≡ 0
-still-lies nodes state h =
-    ap (λ (b : Bool). if b then state.left else state.turnout.time * 1000 - state.left) (not-false (same_bool (side_in nodes state) state.is_thrown) h.unmoved) ∙ h.lies
-
-stands-still : (k : ℕ) (state : TurnoutState) → state.left ≡ 0 → moved_on k state ≡ state
-stands-still k state h = let none : state.left - k ≡ state.left = omega (arith, h) in ap (λ (left : ℕ). record state { left = left }) none
-
-all-stand : (k : ℕ) (nodes : List Node) (states : List TurnoutState) → AllStay nodes states → map (moved_on k) (map (observed nodes) states) ≡ map (observed nodes) states
-all-stand k nodes [] h = refl
-all-stand k nodes (state ∷ states) h =
-    let parts = and_parts (stays nodes state) (list_all (stays nodes) states) h in
-    ap₂ (λ (s : TurnoutState) (rest : List TurnoutState). s ∷ rest)
-    (stands-still k (observed nodes state) (still-lies nodes state (stays-parts nodes state parts.0))) (all-stand k nodes states parts.1)
-
-all-calm : (k : ℕ) (nodes : List Node) (states : List TurnoutState) → AllStay nodes states → list_all (is_calm_for k) (map (observed nodes) states) ≡ true
-all-calm k nodes [] h = refl
-all-calm k nodes (state ∷ states) h =
-    let parts = and_parts (stays nodes state) (list_all (stays nodes) states) h in
-    and_from (is_calm_for k (observed nodes state)) (list_all (is_calm_for k) (map (observed nodes) states))
-    (ap (λ (left : ℕ). left == 0 || nat_le k left) (still-lies nodes state (stays-parts nodes state parts.0))) (all-calm k nodes states parts.1)
-
-stays-advanced : (p : Power) (k : ℕ) (nodes : List Node) (n : Network) → AllStay nodes n.turnouts → advanced_under p k (laid nodes n) ≡ laid nodes n
-stays-advanced Off k nodes n h = refl
-stays-advanced PowerOn k nodes n h = ap (λ (states : List TurnoutState). record n { turnouts = states }) (all-stand k nodes n.turnouts h)
-stays-advanced Paused k nodes n h = ap (λ (states : List TurnoutState). record n { turnouts = states }) (all-stand k nodes n.turnouts h)
-
-stays-piece : (p : Power) (k : ℕ) (nodes : List Node) (n : Network) → AllStay nodes n.turnouts → is_piece p k (laid nodes n) ≡ true
-stays-piece Off k nodes n h = refl
-stays-piece PowerOn k nodes n h = all-calm k nodes n.turnouts h
-stays-piece Paused k nodes n h = all-calm k nodes n.turnouts h
-
 -- Networks on which trains run alike.
 
 abbrev RunsAlike : Network → Network → Type 0
 RunsAlike n m = (micros : ℕ) (running : Option Running) (t : TrainState) → run_for m micros running t ≡ run_for n micros running t
-
-laid-alike : (nodes : List Node) (n : Network) → AllStay nodes n.turnouts → RunsAlike n (laid nodes n)
-laid-alike nodes n h = for-same-track (observed nodes) n (same-track (observed nodes) (is_moved nodes) (laid-changes nodes) n (none-moved nodes n.turnouts h))
 
 no-turnouts : (states : List TurnoutState) → list_any no_turnout states ≡ false
 unfolding no_turnout
@@ -156,97 +95,229 @@ no-turnouts (state ∷ states) = no-turnouts states
 failing-alike : (switch : Option ℕ) (n : Network) → RunsAlike n (with_failing switch n)
 failing-alike switch n = for-same-track (failing_by switch) n (same-track (failing_by switch) no_turnout (failing-changes switch) n (no-turnouts n.turnouts))
 
--- What happens to a train that is left alone.
+-- A train of which the way stays, while time passes.
 
-record Goes (r s : RailwayState) (i micros : ℕ) (running : Running) (none : TrainState) : Type 0 where
-  alike : RunsAlike r.network s.network
-  count : length s.trains ≡ length r.trains
-  train : slice_index_or s.trains i none ≡ run_for r.network micros (Some running) (slice_index_or r.trains i none)
+for-decoder : (n : Network) (micros : ℕ) (running : Running) (t : TrainState) → (run_for n micros (Some running) t).decoder ≡ t.decoder
+for-decoder n micros running t = ap (λ (u : TrainState). u.decoder) (as-in n micros running t) ∙ (in-same n micros (nodes_with t.decoder running) t).decoder
+
+for-train : (n : Network) (micros : ℕ) (running : Running) (t : TrainState) → IsTrue (is_sound n) → is_train n t ≡ true → is_train n (run_for n micros (Some running) t) ≡ true
+for-train n micros running t sound h =
+    ap (λ (u : TrainState). is_train n u) (as-in n micros running t) ∙ under-train PowerOn n micros (nodes_with t.decoder running) t sound h
 
 pub powered : (p : Power) (n : Network) (micros : ℕ) (nodes : List Node) (t : TrainState) → p ≢ Off → run_under p n micros nodes t ≡ run_in n micros nodes t
 powered Off n micros nodes t h = absurd (h refl)
 powered PowerOn n micros nodes t h = refl
 powered Paused n micros nodes t h = refl
 
-stands : (r s : RailwayState) (i : ℕ) (running : Running) (none : TrainState) → is_train r.network (slice_index_or r.trains i none) ≡ true
-    → RunsAlike r.network s.network → length s.trains ≡ length r.trains → slice_index_or s.trains i none ≡ slice_index_or r.trains i none → Goes r s i 0 running none
-stands r s i running none h alike count same = record { alike = alike; count = count; train = same ∙ sym (for-zero r.network (Some running) (slice_index_or r.trains i none) h) }
+power-moves : (p : Power) (micros : ℕ) (n : Network) → p ≢ Off → advanced_under p micros n ≡ advanced micros n
+power-moves Off micros n h = absurd (h refl)
+power-moves PowerOn micros n h = refl
+power-moves Paused micros n h = refl
+
+module _ (n : Network) (running : Running) (left : ℕ) (t : TrainState) (nodes : List Node) (sound : IsTrue (is_sound n)) (h : is_train n t ≡ true) (way : WayStays n running left t nodes) where
+  -- the train at a moment
+  abbrev at : ℕ → TrainState
+  at moment = run_for n moment (Some running) t
+
+  at-rails : (moment : ℕ) → is_derailed (at moment) ≡ false → is_derailed t ≡ false
+  at-rails moment rails = elim (cases_Bool (is_derailed t)) [
+    | inl derailed ↦ absurd (not-both (is_derailed t) derailed (sym (ap (λ (u : TrainState). is_derailed u) (for-derailed n moment (Some running) t derailed)) ∙ rails))
+    | inr on_rails ↦ on_rails
+  ]
+
+  at-on : (moment micros : ℕ) → run_for n micros (Some running) (at moment) ≡ at (moment + micros)
+  at-on moment micros = for-for n running moment micros t
+
+  -- what it runs over stays
+  over : (moment : ℕ) → moment < left → is_derailed (at moment) ≡ false
+      → first_at (end_of_any (moves nodes) n.turnouts) n (trailing_end (next_velocity_of running (at moment)).forward (at moment)) (span (at moment) + (next_velocity_of running (at moment)).speed) ≡ None
+  over moment less rails =
+      off-way (moves nodes) n (trailing_end (next_velocity_of running (at moment)).forward (at moment)) (span (at moment) + (next_velocity_of running (at moment)).speed)
+      (λ k d within met.
+      ap (λ (b : Bool). not b) (way k d within (record { rails = at-rails moment rails; moment = moment; within = omega (arith, less); met = inr (less, met) })))
+
+  -- what it lies over stays
+  lain : (is : TurnoutState → Bool) → ((state : TurnoutState) → stays nodes state ≡ true → is state ≡ false) → (moment : ℕ) → moment ≤ left → is_derailed t ≡ false
+      → first_at (end_of_any is n.turnouts) n (at moment).rear (span (at moment)) ≡ None
+  lain is none moment less rails =
+      off-way is n (at moment).rear (span (at moment))
+      (λ k d within met. none (slice_index_or n.turnouts k d) (way k d within (record { rails = rails; moment = moment; within = less; met = inl met })))
+
+  under : (moment : ℕ) → moment ≤ left → is_derailed t ≡ false → first_at (end_of_any (moves nodes) n.turnouts) n (at moment).rear (span (at moment)) ≡ None
+  under moment less rails = lain (moves nodes) (λ state stay. ap (λ (b : Bool). not b) stay) moment less rails
+
+  -- so it runs on as it would
+  one-on : (f : TurnoutState → TurnoutState) → KeepsLying nodes f → (moment : ℕ) → moment < left → run_for (changed f n) 1 (Some running) (at moment) ≡ at (moment + 1)
+  one-on f keeps moment less =
+      one-elsewhere f (moves nodes) keeps.changes n running (at moment) sound (for-train n moment running t sound h) (over moment less)
+      (λ rails. subst (λ (u : TrainState). first_at (end_of_any (moves nodes) n.turnouts) n u.rear (span u) ≡ None) (sym (at-on moment 1))
+      (under (moment + 1) (omega (arith, less)) (at-rails moment rails)))
+      ∙ at-on moment 1
+
+  still-train : (f : TurnoutState → TurnoutState) → KeepsLying nodes f → (moment : ℕ) → moment ≤ left → is_train (changed f n) (at moment) ≡ true
+  still-train f keeps moment less =
+      train-changed f (moves nodes) keeps.changes n (at moment) (for-train n moment running t sound h) (λ rails. under moment less (at-rails moment rails))
+
+  pub runs-on : (f : TurnoutState → TurnoutState) → KeepsLying nodes f → (micros moment : ℕ) → moment + micros ≤ left → run_for (changed f n) micros (Some running) (at moment) ≡ at (moment + micros)
+  runs-on f keeps zero moment less =
+      let same : moment + 0 ≡ moment = omega arith in
+      for-zero (changed f n) (Some running) (at moment) (still-train f keeps moment (omega (arith, less))) ∙ ap (λ (k : ℕ). at k) (sym same)
+  runs-on f keeps (suc micros) moment less =
+      let one : 1 + micros ≡ suc micros = omega arith in
+      let all : moment + 1 + micros ≡ moment + suc micros = omega arith in
+      ap (λ (k : ℕ). run_for (changed f n) k (Some running) (at moment)) (sym one)
+      ∙ sym (for-for (changed f n) running 1 micros (at moment))
+      ∙ ap (λ (u : TrainState). run_for (changed f n) micros (Some running) u) (one-on f keeps moment (omega (arith, less)))
+      ∙ runs-on f keeps micros (moment + 1) (omega (arith, less)) ∙ ap (λ (k : ℕ). at k) all
+
+  -- a railway on which it has run so far
+  pub record RanSoFar (i moment : ℕ) (none : TrainState) (s : RailwayState) : Type 0 where
+    pub by : TurnoutState → TurnoutState
+    pub keeps : KeepsLying nodes by
+    pub network : s.network ≡ changed by n
+    pub count : i < length s.trains
+    pub train : slice_index_or s.trains i none ≡ at moment
+
+  unmoved : checked nodes n t ≡ t
+  unmoved = elim (cases_Bool (is_derailed t)) [
+    | inl derailed ↦ checked-derailed nodes n t derailed
+    | inr rails ↦
+        checked-stays nodes n t
+        (subst (λ (u : TrainState). thrown_under nodes n u ≡ None) (for-zero n (Some running) t h)
+        (lain (is_moved nodes) (λ state stay. (stays-parts nodes state stay).unmoved) 0 (omega arith) rails))
+  ]
+
+  laid-so_far : (r : RailwayState) (i : ℕ) (none : TrainState) → r.network ≡ n → i < length r.trains → slice_index_or r.trains i none ≡ t → RanSoFar i 0 none (laid_in nodes r)
+  laid-so_far r i none track within own =
+      let count : length (map (checked nodes r.network) r.trains) ≡ length r.trains = length-map r.trains (checked nodes r.network) in
+      record {
+        by = observed nodes;
+        keeps = observed-keeps nodes;
+        network = ap (λ (track : Network). laid nodes track) track;
+        count = omega (arith, count, within);
+        train = get_or-map (checked nodes r.network) r.trains i none none within
+            ∙ ap (λ (u : TrainState). checked nodes r.network u) own ∙ ap (λ (track : Network). checked nodes track t) track
+            ∙ unmoved ∙ sym (for-zero n (Some running) t h);
+      }
+
+  ran-so_far : (p : Power) (i moment : ℕ) (none : TrainState) (s : RailwayState) → p ≢ Off → running_in nodes t.decoder ≡ Some running → moment < left → RanSoFar i moment none s → RanSoFar i (moment + 1) none (ran_in p 1 nodes s)
+  ran-so_far p i moment none s on runs less so_far =
+      let count : length (map (run_under p s.network 1 nodes) s.trains) ≡ length s.trains = length-map s.trains (run_under p s.network 1 nodes) in
+      let asks : running_in nodes (at moment).decoder ≡ Some running = ap (λ (decoder : ℕ). running_in nodes decoder) (for-decoder n moment running t) ∙ runs in
+      record {
+        by = λ state. moved_on 1 (so_far.by state);
+        keeps = moved_on-keeps nodes 1 so_far.by so_far.keeps;
+        network = power-moves p 1 s.network on ∙ ap (λ (track : Network). advanced 1 track) so_far.network ∙ advanced-changed 1 so_far.by n;
+        count = omega (arith, count, so_far.count);
+        train = get_or-map (run_under p s.network 1 nodes) s.trains i none none so_far.count
+            ∙ ap (λ (u : TrainState). run_under p s.network 1 nodes u) so_far.train
+            ∙ powered p s.network 1 nodes (at moment) on
+            ∙ ap (λ (track : Network). run_in track 1 nodes (at moment)) so_far.network
+            ∙ ap (λ (asked : Option Running). run_for (changed so_far.by n) 1 asked (at moment)) asks
+            ∙ one-on so_far.by so_far.keeps moment less;
+      }
+
+  through-so_far : (p : Power) (i micros moment : ℕ) (none : TrainState) (s : RailwayState) → p ≢ Off → running_in nodes t.decoder ≡ Some running → moment + micros ≤ left → RanSoFar i moment none s
+      → RanSoFar i (moment + micros) none (run_through p micros nodes s)
+  unfolding run_through
+  through-so_far p i zero moment none s on runs less so_far =
+      let same : moment ≡ moment + 0 = omega arith in
+      subst (λ (k : ℕ). RanSoFar i k none s) same so_far
+  through-so_far p i (suc micros) moment none s on runs less so_far =
+      let all : moment + 1 + micros ≡ moment + suc micros = omega arith in
+      subst (λ (k : ℕ). RanSoFar i k none (run_through p micros nodes (ran_in p 1 nodes s))) all
+      (through-so_far p i micros (moment + 1) none (ran_in p 1 nodes s) on runs (omega (arith, less)) (ran-so_far p i moment none s on runs (omega (arith, less)) so_far))
+
+-- What happens to a train that is left alone.
+
+record Goes (r s : RailwayState) (i micros left : ℕ) (running : Running) (none : TrainState) : Type 0 where
+  count : i < length s.trains
+  train : slice_index_or s.trains i none ≡ run_for r.network micros (Some running) (slice_index_or r.trains i none)
+  on : (more : ℕ) → micros + more ≤ left
+      → run_for s.network more (Some running) (run_for r.network micros (Some running) (slice_index_or r.trains i none)) ≡ run_for r.network (micros + more) (Some running) (slice_index_or r.trains i none)
+
+stands : (r s : RailwayState) (i left : ℕ) (running : Running) (none : TrainState) → is_train r.network (slice_index_or r.trains i none) ≡ true
+    → RunsAlike r.network s.network → i < length s.trains → slice_index_or s.trains i none ≡ slice_index_or r.trains i none → Goes r s i 0 left running none
+stands r s i left running none h alike count same =
+    let zero_on : run_for r.network 0 (Some running) (slice_index_or r.trains i none) ≡ slice_index_or r.trains i none = for-zero r.network (Some running) (slice_index_or r.trains i none) h in
+    record {
+      count = count;
+      train = same ∙ sym zero_on;
+      on = λ more less. alike more (Some running) (run_for r.network 0 (Some running) (slice_index_or r.trains i none)) ∙ for-for r.network running 0 more (slice_index_or r.trains i none);
+    }
 
 same-alike : (n : Network) → RunsAlike n n
 same-alike n micros running t = refl
 
-elapses : (r : RailwayState) (i micros : ℕ) (p : Power) (nodes : List Node) (running : Running) (none : TrainState) → is_train r.network (slice_index_or r.trains i none) ≡ true → i < length r.trains
-    → AllStay nodes r.network.turnouts → p ≢ Off → running_in nodes (slice_index_or r.trains i none).decoder ≡ Some running → Goes r (elapsed r micros p nodes) i micros running none
-elapses r i zero p nodes running none h within stay on runs =
+elapses : (r : RailwayState) (i micros left : ℕ) (p : Power) (nodes : List Node) (running : Running) (none : TrainState) → IsTrue (is_sound r.network) → is_train r.network (slice_index_or r.trains i none) ≡ true → i < length r.trains
+    → micros ≤ left → WayStays r.network running left (slice_index_or r.trains i none) nodes → p ≢ Off → running_in nodes (slice_index_or r.trains i none).decoder ≡ Some running → Goes r (elapsed r micros p nodes) i micros left running none
+elapses r i micros left p nodes running none sound h within less way on runs =
     let n = r.network in
-    let laid_trains : map (checked nodes n) r.trains ≡ r.trains = unmoved-trains nodes n r.trains (none-moved nodes n.turnouts stay) in
-    subst (λ (s : RailwayState). Goes r s i 0 running none) (sym (run_through-zero p nodes (laid_in nodes r)))
-    (stands r (laid_in nodes r) i running none h (laid-alike nodes n stay) (ap (λ (ts : List TrainState). length ts) laid_trains) (ap (λ (ts : List TrainState). slice_index_or ts i none) laid_trains))
-elapses r i (suc k) p nodes running none h within stay on runs =
-    let n = r.network in
-    let m : Network = laid nodes n in
-    let micros : ℕ = suc k in
     let t : TrainState = slice_index_or r.trains i none in
-    let start : RailwayState = laid_in nodes r in
-    let laid_trains : map (checked nodes n) r.trains ≡ r.trains = unmoved-trains nodes n r.trains (none-moved nodes n.turnouts stay) in
-    let whole : elapsed r micros p nodes ≡ ran_in p micros nodes start = piece-run_through p nodes micros start (omega arith) (stays-piece p micros nodes n stay) in
-    let trains : (ran_in p micros nodes start).trains ≡ map (run_under p m micros nodes) r.trains = ap (λ (ts : List TrainState). map (run_under p m micros nodes) ts) laid_trains in
-    let network : (ran_in p micros nodes start).network ≡ m = stays-advanced p micros nodes n stay in
-    subst (λ (s : RailwayState). Goes r s i micros running none) (sym whole)
-    (record {
-      alike = λ these asked u. ap (λ (track : Network). run_for track these asked u) network ∙ laid-alike nodes n stay these asked u;
-      count = ap (λ (ts : List TrainState). length ts) trains ∙ length-map r.trains (run_under p m micros nodes);
-      train = ap (λ (ts : List TrainState). slice_index_or ts i none) trains
-          ∙ get_or-map (run_under p m micros nodes) r.trains i none none within
-          ∙ powered p m micros nodes t on ∙ ap (λ (asked : Option Running). run_for m micros asked t) runs ∙ laid-alike nodes n stay micros (Some running) t;
-    })
+    let start = laid-so_far n running left t nodes sound h way r i none refl within refl in
+    let whole : 0 + micros ≡ micros = omega arith in
+    let so_far = subst (λ (k : ℕ). RanSoFar n running left t nodes sound h way i k none (elapsed r micros p nodes)) whole
+    (through-so_far n running left t nodes sound h way p i micros 0 none (laid_in nodes r) on runs (omega (arith, less)) start) in
+    record {
+      count = so_far.count;
+      train = so_far.train;
+      on = λ more within_left.
+          ap (λ (track : Network). run_for track more (Some running) (run_for n micros (Some running) t)) so_far.network
+          ∙ runs-on n running left t nodes sound h way so_far.by so_far.keeps more micros within_left;
+    }
 
-placed : (r : RailwayState) (i : ℕ) (running : Running) (none : TrainState) (other : ℕ) (position : Position) (fault : Option PlaceFault) → is_train r.network (slice_index_or r.trains i none) ≡ true → other ≢ i
-    → Goes r (unless_refused fault (placed_in r other position) r) i 0 running none
-placed r i running none other position (Some fault) h apart = stands r r i running none h (same-alike r.network) refl refl
-placed r i running none other position None h apart =
+placed : (r : RailwayState) (i left : ℕ) (running : Running) (none : TrainState) (other : ℕ) (position : Position) (fault : Option PlaceFault) → is_train r.network (slice_index_or r.trains i none) ≡ true → i < length r.trains → other ≢ i
+    → Goes r (unless_refused fault (placed_in r other position) r) i 0 left running none
+placed r i left running none other position (Some fault) h within apart = stands r r i left running none h (same-alike r.network) within refl
+placed r i left running none other position None h within apart =
     let new : TrainState = replaced r.network (slice_index_or r.trains other default_state) position in
-    stands r (placed_in r other position) i running none h (same-alike r.network) (length-set r.trains other new) (get_or-set_other r.trains other i new none (λ same. apart (sym same)))
+    let count : length (slice_set r.trains other new) ≡ length r.trains = length-set r.trains other new in
+    stands r (placed_in r other position) i left running none h (same-alike r.network) (omega (arith, count, within)) (get_or-set_other r.trains other i new none (λ same. apart (sym same)))
 
-sensor : (r : RailwayState) (i : ℕ) (running : Running) (none : TrainState) (block : Option ℕ) (occupied : Bool) → is_train r.network (slice_index_or r.trains i none) ≡ true
-    → Goes r (sensor_failed block occupied r) i 0 running none
-sensor r i running none None occupied h = stands r r i running none h (same-alike r.network) refl refl
-sensor r i running none (Some block) occupied h = stands r (sensor_failed (Some block) occupied r) i running none h (same-alike r.network) refl refl
+sensor : (r : RailwayState) (i left : ℕ) (running : Running) (none : TrainState) (block : Option ℕ) (occupied : Bool) → is_train r.network (slice_index_or r.trains i none) ≡ true → i < length r.trains
+    → Goes r (sensor_failed block occupied r) i 0 left running none
+sensor r i left running none None occupied h within = stands r r i left running none h (same-alike r.network) within refl
+sensor r i left running none (Some block) occupied h within = stands r (sensor_failed (Some block) occupied r) i left running none h (same-alike r.network) within refl
 
-goes : (r : RailwayState) (happening : Happening) (i : ℕ) (running : Running) (none : TrainState) → is_railway r ≡ true → i < length r.trains → LeavesAlone i r.network happening
-    → IsDrivenBy (slice_index_or r.trains i none).decoder running happening → Goes r (after r happening) i (time_of happening) running none
-goes r happening i running none h within alone driven = by happening alone driven where
+goes : (r : RailwayState) (happening : Happening) (i left : ℕ) (running : Running) (none : TrainState) → is_railway r ≡ true → i < length r.trains → time_of happening ≤ left → LeavesAlone i running left r happening
+    → IsDrivenBy (slice_index_or r.trains i none).decoder running happening → Goes r (after r happening) i (time_of happening) left running none
+goes r happening i left running none h within less alone driven = by happening less alone driven where
+  parts : (is_sound r.network ≡ true) × (list_all (is_train r.network) r.trains ≡ true)
+  parts = and_parts (is_sound r.network) (list_all (is_train r.network) r.trains) h
+
   train : is_train r.network (slice_index_or r.trains i none) ≡ true
-  train = all-at (is_train r.network) r.trains i none (and_parts (is_sound r.network) (list_all (is_train r.network) r.trains) h).1 within
+  train = all-at (is_train r.network) r.trains i none parts.1 within
 
-  by : (happening : Happening) → LeavesAlone i r.network happening → IsDrivenBy (slice_index_or r.trains i none).decoder running happening → Goes r (after r happening) i (time_of happening) running none
-  by (Elapses micros power nodes) alone driven = elapses r i micros power nodes running none train within alone driven.0 driven.1
-  by (Places other position) alone driven = placed r i running none other position (place_fault r other position) train alone
-  by (SensorFails sensor_number occupied) alone driven = sensor r i running none (block_with sensor_number r.network.blocks) occupied train
-  by (TurnoutFails switch) alone driven = stands r (after r (TurnoutFails switch)) i running none train (failing-alike (Some switch) r.network) refl refl
-  by FailuresEnd alone driven = stands r (after r FailuresEnd) i running none train (failing-alike None r.network) refl refl
+  by : (happening : Happening) → time_of happening ≤ left → LeavesAlone i running left r happening → IsDrivenBy (slice_index_or r.trains i none).decoder running happening → Goes r (after r happening) i (time_of happening) left running none
+  by (Elapses micros power nodes) less alone driven =
+      elapses r i micros left power nodes running none parts.0 train within less
+      (subst (λ (t : TrainState). WayStays r.network running left t nodes) (get_or_default r.trains i default_state none within) alone) driven.0 driven.1
+  by (Places other position) less alone driven = placed r i left running none other position (place_fault r other position) train within alone
+  by (SensorFails sensor_number occupied) less alone driven = sensor r i left running none (block_with sensor_number r.network.blocks) occupied train within
+  by (TurnoutFails switch) less alone driven = stands r (after r (TurnoutFails switch)) i left running none train (failing-alike (Some switch) r.network) within refl
+  by FailuresEnd less alone driven = stands r (after r FailuresEnd) i left running none train (failing-alike None r.network) within refl
 
 -- Through all that happens.
 
 abbrev pub KeepsRailways : Type 0
 KeepsRailways = (railway : RailwayState) (happening : Happening) → IsTrue (is_railway railway) → IsTrue (is_railway (after railway happening))
 
-all-go : KeepsRailways → (happenings : List Happening) (n : Network) (r : RailwayState) (i decoder : ℕ) (running : Running) (none : TrainState) → RunsAlike n r.network → is_railway r ≡ true → i < length r.trains
-    → AllLeaveAlone i r happenings → AreDrivenBy decoder running happenings → (slice_index_or r.trains i none).decoder ≡ decoder
-    → slice_index_or (after_all r happenings).trains i none ≡ run_for n (time_in happenings) (Some running) (slice_index_or r.trains i none)
-all-go keeps [] n r i decoder running none alike h within alone driven own =
-    let train : is_train r.network (slice_index_or r.trains i none) ≡ true = all-at (is_train r.network) r.trains i none (and_parts (is_sound r.network) (list_all (is_train r.network) r.trains) h).1 within in
-    sym (sym (alike 0 (Some running) (slice_index_or r.trains i none)) ∙ for-zero r.network (Some running) (slice_index_or r.trains i none) train)
-all-go keeps (happening ∷ happenings) n r i decoder running none alike h within alone driven own =
+all-go : KeepsRailways → (happenings : List Happening) (r : RailwayState) (i decoder : ℕ) (running : Running) (none : TrainState) → is_railway r ≡ true → i < length r.trains
+    → AllLeaveAlone i running r happenings → AreDrivenBy decoder running happenings → (slice_index_or r.trains i none).decoder ≡ decoder
+    → slice_index_or (after_all r happenings).trains i none ≡ run_for r.network (time_in happenings) (Some running) (slice_index_or r.trains i none)
+all-go keeps [] r i decoder running none h within alone driven own =
+    sym (for-zero r.network (Some running) (slice_index_or r.trains i none)
+    (all-at (is_train r.network) r.trains i none (and_parts (is_sound r.network) (list_all (is_train r.network) r.trains) h).1 within))
+all-go keeps (happening ∷ happenings) r i decoder running none h within alone driven own =
     let s : RailwayState = after r happening in
     let t : TrainState = slice_index_or r.trains i none in
     let u : TrainState = slice_index_or s.trains i none in
-    let first = goes r happening i running none h within alone.0 (subst (λ (d : ℕ). IsDrivenBy d running happening) (sym own) driven.0) in
-    let ran : u ≡ run_for n (time_of happening) (Some running) t = first.train ∙ alike (time_of happening) (Some running) t in
-    let still_own : u.decoder ≡ decoder =
-    ap (λ (w : TrainState). w.decoder) (ran ∙ as-in n (time_of happening) running t) ∙ (in-same n (time_of happening) (nodes_with t.decoder running) t).decoder ∙ own in
-    let rest = all-go keeps happenings n s i decoder running none (λ micros asked w. first.alike micros asked w ∙ alike micros asked w) (keeps r happening h) (omega (arith, first.count, within)) alone.1 driven.1 still_own in
-    rest ∙ ap (λ (w : TrainState). run_for n (time_in happenings) (Some running) w) ran ∙ for-for n running (time_of happening) (time_in happenings) t
+    let here : ℕ = time_of happening in
+    let rest : ℕ = time_in happenings in
+    let first = goes r happening i (here + rest) running none h within (omega arith) alone.0 (subst (λ (d : ℕ). IsDrivenBy d running happening) (sym own) driven.0) in
+    let still_own : u.decoder ≡ decoder = ap (λ (w : TrainState). w.decoder) first.train ∙ for-decoder r.network here running t ∙ own in
+    all-go keeps happenings s i decoder running none (keeps r happening h) first.count alone.1 driven.1 still_own
+    ∙ ap (λ (w : TrainState). run_for s.network rest (Some running) w) first.train ∙ first.on rest (omega arith)
 
 -- What that is.
 
@@ -311,12 +382,12 @@ module _ (is_way : IsWay) (one_way : GoesOneWay) (ramps : EndsRamps) (n : Networ
       })
 
 pub runs-as-driven : KeepsRailways → IsWay → GoesOneWay → EndsRamps → (r : RailwayState) (happenings : List Happening) (i : ℕ) (none : TrainState) (running : Running) → IsTrue (is_railway r) → i < length r.trains
-    → AllLeaveAlone i r happenings → AreDrivenBy (slice_index_or r.trains i none).decoder running happenings
+    → AllLeaveAlone i running r happenings → AreDrivenBy (slice_index_or r.trains i none).decoder running happenings
     → HasRun r.network running (time_in happenings) (slice_index_or r.trains i none) (slice_index_or (after_all r happenings).trains i none)
 runs-as-driven keeps is_way one_way ramps r happenings i none running h within alone driven =
     let t : TrainState = slice_index_or r.trains i none in
     let parts = and_parts (is_sound r.network) (list_all (is_train r.network) r.trains) h in
     let train : is_train r.network t ≡ true = all-at (is_train r.network) r.trains i none parts.1 within in
     subst (λ (u : TrainState). HasRun r.network running (time_in happenings) t u)
-    (sym (all-go keeps happenings r.network r i t.decoder running none (same-alike r.network) h within alone driven refl))
+    (sym (all-go keeps happenings r i t.decoder running none h within alone driven refl))
     (has-run is_way one_way ramps r.network running (time_in happenings) t parts.0 train)

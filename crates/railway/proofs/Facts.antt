@@ -11,6 +11,10 @@ some-same p q h = cc
 pub none-some : (q : Place) → None ≡ Some q → ⊥
 none-some q h = cc
 
+pub not-both : (b : Bool) → b ≡ true → b ≡ false → ⊥
+not-both true h g = cc
+not-both false h g = cc
+
 pub or-right-true : (one two : Bool) → two ≡ true → (one || two) ≡ true
 or-right-true true two h = refl
 or-right-true false two h = h

@@ -25,6 +25,7 @@ pub mod Pieces
 pub mod Times
 pub mod Sensors
 pub mod Observing
+pub mod Elsewhere
 pub mod Driven
 pub mod Premises
 pub mod Unseen

@@ -214,7 +214,7 @@ none-come k (state ∷ states) h =
     let parts = and_parts (is_calm_for (suc (suc k)) state) (list_all (is_calm_for (suc (suc k))) states) h in
     or-none (comes 1 state) (list_any (comes 1) states) (calm-stays k state.left parts.0) (none-come k states parts.1)
 
-same-switches : (f : TurnoutState → TurnoutState) (is : TurnoutState → Bool) → Changes f is → (states : List TurnoutState) (end : BlockEnd) → switch_at (map f states) end ≡ switch_at states end
+pub same-switches : (f : TurnoutState → TurnoutState) (is : TurnoutState → Bool) → Changes f is → (states : List TurnoutState) (end : BlockEnd) → switch_at (map f states) end ≡ switch_at states end
 same-switches f is c [] end = refl
 same-switches f is c (state ∷ states) end =
     ap (λ (turnout : _). if is_end_of end (record (f state) { turnout = turnout }) then turnout.switch else switch_at (map f states) end) (c.keeps state)

@@ -15,6 +15,7 @@ use Rattle.railway.specs.Network.{Network, is_sound, onward, run_on, step, stepp
 use Rattle.railway.specs.Places.{end_ahead, is_derailed, still, turned}
 use Rattle.railway.specs.Running.{moved_at, ridden, rode, run_by}
 use Rattle.railway.specs.Trains.{is_movable}
+use Rattle.railway.proofs.Facts.{not-both}
 use Rattle.railway.proofs.Keeping.{Kept, by-step, run_by-kept}
 use Rattle.railway.proofs.Runs.{by-derailed, turned-back}
 use Rattle.railway.proofs.Ways.{run_on-add, step-derailed, step-onward}
@@ -286,10 +287,6 @@ by-alike n false v w t u k way h =
     turned-alike v w (run_on n (turned t) k) (run_on n (turned u) k) (run-alike n v w (turned t) (turned u) k way (turned-alike v w t u h))
 
 -- A train that is not derailed was not derailed before.
-
-not-both : (b : Bool) → b ≡ true → b ≡ false → ⊥
-not-both true h g = cc
-not-both false h g = cc
 
 pub rails-before : (n : Network) (d : Drive) (k : ℕ) (t : TrainState) → is_derailed (ridden n d k t) ≡ false → is_derailed t ≡ false
 rails-before n d k t h = elim (cases_Bool (is_derailed t)) [

@@ -41,7 +41,7 @@ first-other : (is : BlockEnd → Bool) (n : Network) (p : Place) (way : ℕ) →
 unfolding first_at
 first-other is n p way h = ap (λ (b : Bool). if b then Some p else option_and_then (λ next. first_at is n next way) (place_of (onward n p))) h
 
-first-next : (is : BlockEnd → Bool) (n : Network) (p q : Place) (way : ℕ) → leaves_at is n p ≡ false → onward n p ≡ To q → first_at is n p (suc way) ≡ first_at is n q way
+pub first-next : (is : BlockEnd → Bool) (n : Network) (p q : Place) (way : ℕ) → leaves_at is n p ≡ false → onward n p ≡ To q → first_at is n p (suc way) ≡ first_at is n q way
 first-next is n p q way h g = first-other is n p way h ∙ ap (λ (o : Onward). option_and_then (λ next. first_at is n next way) (place_of o)) g
 
 pub first-zero : (is : BlockEnd → Bool) (n : Network) (p : Place) → first_at is n p 0 ≡ None
@@ -61,7 +61,7 @@ first-ends is n p (suc way) h g = first-other is n p way h ∙ ap (λ (o : Optio
 leaves-none : (is : BlockEnd → Bool) (n : Network) (p : Place) → 0 < to_end (length_of n.blocks p.block) p → leaves_at is n p ≡ false
 leaves-none is n p h = ap (λ (b : Bool). b && is (end_ahead p)) (ne_eqb (to_end (length_of n.blocks p.block) p) 0 (λ e. omega (arith, h, e)))
 
-first-part : (is : BlockEnd → Bool) (n : Network) (p : Place) (part way : ℕ) → part ≤ way → part ≤ to_end (length_of n.blocks p.block) p → first_at is n p way ≡ first_at is n (further p part) (way - part)
+pub first-part : (is : BlockEnd → Bool) (n : Network) (p : Place) (part way : ℕ) → part ≤ way → part ≤ to_end (length_of n.blocks p.block) p → first_at is n p way ≡ first_at is n (further p part) (way - part)
 first-part is n p zero way less h =
     let all : way ≡ way - 0 = omega arith in
     ap (λ (w : ℕ). first_at is n p w) all ∙ ap (λ (q : Place). first_at is n q (way - 0)) (further-zero p)
@@ -264,7 +264,7 @@ same-exit f is c n end h =
     ∙ ap (λ (o : Option BlockEnd). option_or (partner n.joints end) o) (same-partner f is c n.turnouts end h)
     ∙ sym (partner-append n.joints (joints_of n.turnouts) end))
 
-same-onward : (f : TurnoutState → TurnoutState) (is : TurnoutState → Bool) → Changes f is → (n : Network) (p : Place) → leaves_at (end_of_any is n.turnouts) n p ≡ false → onward (changed f n) p ≡ onward n p
+pub same-onward : (f : TurnoutState → TurnoutState) (is : TurnoutState → Bool) → Changes f is → (n : Network) (p : Place) → leaves_at (end_of_any is n.turnouts) n p ≡ false → onward (changed f n) p ≡ onward n p
 same-onward f is c n p h = elim (cases_Bool (to_end (length_of n.blocks p.block) p == 0)) [
   | inl ends ↦
       let none : to_end (length_of n.blocks p.block) p ≡ 0 = eqb-true (to_end (length_of n.blocks p.block) p) 0 ends in

@@ -123,11 +123,12 @@ pub fn ways_are_speed_times_time()
 }
 
 /// A train whose decoder runs the same through all that happens, and that is left alone, has run so
-/// for all of the time: at its speed times the time, or at its speed after its ramp.
+/// for all of the time: at its speed times the time, or at its speed after its ramp. Turnouts that are
+/// not on its way may move.
 pub fn trains_run_as_driven()
     ensures { (railway : RailwayState) (happenings : List Happening) (i : ℕ) (none : TrainState)
         (running : Running) → IsTrue (is_railway railway) → i < length railway.trains
-        → AllLeaveAlone i railway happenings
+        → AllLeaveAlone i running railway happenings
         → AreDrivenBy (slice_index_or railway.trains i none).decoder running happenings
         → HasRun railway.network running (time_in happenings)
         (slice_index_or railway.trains i none)
