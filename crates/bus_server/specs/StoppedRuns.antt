@@ -14,7 +14,7 @@ use Rattle.bus_server.specs.Running.{HasGrown, IsEventRun, Round, RunsRounds, Ru
 use Rattle.bus_server.specs.Track.{IsTimeDue, RunsSteps, RunsTrack, RunsTurns, is_piece, is_turn, turns_left, with_time_due}
 use Rattle.bus_server.specs.TransportEvents.{Accepted, PeerClosed, Received, ServerClosed, TransportEvent}
 
--- What was applied of an event of the transport at which the observer failed: all but, perhaps, some of what sensors report. At
+-- What was applied of an event of the transport at which the observer failed: all but, perhaps, some of what devices report. At
 -- the notice of an overflow nothing was applied.
 abbrev pub Begins : TransportEvent → List LoggedEvent → ServerState → ServerState → Type 0
 Begins (Accepted client) applied old new = Applies (Accepted client) applied old new

@@ -18,7 +18,7 @@ abbrev pub is_piece : Event → Bool
 is_piece (Elapses micros missed) = nat_lt 0 micros
 is_piece other = false
 
--- a step of the track, a turn or a piece of time, and what sensors report after it
+-- a step of the track, a turn or a piece of time, and what devices report after it
 abbrev pub RunsStep : (is_step : Event → Bool) → List LoggedEvent → ServerState → ServerState → Type 0
 RunsStep is_step applied old new =
     (event : Event) × (is_step event ≡ true) × IsWithReports event (events_of applied) × RunsEvents applied old new
