@@ -1,6 +1,7 @@
 -- The events of rounds run one after another on a layout, whatever else a server does between them.
 use Rattle.std.proofs.Common.{◌≡◌, ℕ, List, [], ◌∷◌, ◌++◌, refl, ap, sym, subst, ◌∙◌}
 use Rattle.std.specs.List.{flat_map}
+use Rattle.decoder_node.specs.declared.running.Running.{Running}
 use Rattle.bus_server.specs.declared.pace.Pace.{Pace}
 use Rattle.bus_server.specs.Running.{Round, RunsRounds, logged_in}
 use Rattle.bus_server.specs.ServerState.{Applies, AppliesAll, Handled, LoggedEvent, RunsEvent, RunsEvents, ServerState, with_backlog, round_start}
@@ -99,12 +100,12 @@ rounds_run most (round ∷ rounds) old new h =
     (track_runs went.1.pace round.readings round.elapsing went.1 h.1 went.3))
     (rounds_run most rounds h.1 new h.3)
 
-left_alone : (train : ℕ) (applied : List LoggedEvent) (old new : ServerState) → RunsOnLayout applied old new → StaysLeftAlone train applied old → RunsLeavingAlone train applied old new
-left_alone train [] old new h alone = h
-left_alone train (one ∷ more) old new h alone =
+left_alone : (train : ℕ) (running : Running) (applied : List LoggedEvent) (old new : ServerState) → RunsOnLayout applied old new → StaysLeftAlone train running applied old → RunsLeavingAlone train running applied old new
+left_alone train running [] old new h alone = h
+left_alone train running (one ∷ more) old new h alone =
     let here = alone h.0 h.1 h.2 h.3 in
-    (h.0, h.1, h.2, h.3, here.0, left_alone train more h.1 new h.4 here.1)
+    (h.0, h.1, h.2, h.3, here.0, left_alone train running more h.1 new h.4 here.1)
 
-pub rounds_leave_alone : (train : ℕ) (applied : List LoggedEvent) (old new : ServerState) → RunsRoundsLeavingAlone train applied old new → RunsLeavingAlone train applied old new
-rounds_leave_alone train applied old new h =
-    left_alone train applied old new (subst (λ (all : List LoggedEvent). RunsOnLayout all old new) (sym h.2) (rounds_run h.0 h.1 old new h.3)) h.4
+pub rounds_leave_alone : (train : ℕ) (running : Running) (applied : List LoggedEvent) (old new : ServerState) → RunsRoundsLeavingAlone train running applied old new → RunsLeavingAlone train running applied old new
+rounds_leave_alone train running applied old new h =
+    left_alone train running applied old new (subst (λ (all : List LoggedEvent). RunsOnLayout all old new) (sym h.2) (rounds_run h.0 h.1 old new h.3)) h.4

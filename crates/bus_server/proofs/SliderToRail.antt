@@ -19,7 +19,7 @@ use Rattle.layout_core.specs.World.{HaveHeard}
 use Rattle.railway.specs.declared.train.TrainState.{TrainState}
 use Rattle.railway.specs.Course.{Happening, after, after_all}
 use Rattle.railway.specs.Course.Happening.{Elapses as TimeElapses}
-use Rattle.railway.specs.Driven.{AllLeaveAlone, AreDrivenBy, HasRun, IsDrivenBy, time_in, time_of}
+use Rattle.railway.specs.Driven.{AllLeaveAlone, AreDrivenBy, HasRun, IsDrivenBy, LeavesAlone, time_in, time_of}
 use Rattle.railway.specs.Railway.{RailwayState, is_railway}
 use Rattle.railway.specs.Trains.{running_in as runs_in}
 use Rattle.loconet_tcp.specs.declared.request.DeviceRequest.{DeviceRequest}
@@ -140,29 +140,30 @@ SoFar = (asked : Assignment) (start : BusState) (before cycle later more : List 
 
 abbrev pub RunsAsDriven : Type 0
 RunsAsDriven = (railway : RailwayState) (happenings : List Happening) (i : ℕ) (none : TrainState) (running : Running) → IsTrue (is_railway railway) → i < length railway.trains
-    → AllLeaveAlone i railway happenings → AreDrivenBy (slice_index_or railway.trains i none).decoder running happenings
+    → AllLeaveAlone i running railway happenings → AreDrivenBy (slice_index_or railway.trains i none).decoder running happenings
     → HasRun railway.network running (time_in happenings) (slice_index_or railway.trains i none) (slice_index_or (after_all railway happenings).trains i none)
 
 -- what happened to a railway
 record Ran (train decoder : ℕ) (running : Running) (r : RailwayState) (micros : ℕ) (new : ServerState) : Type 0 where
   happenings : List Happening
   there : new.railway ≡ Some (after_all r happenings)
-  alone : AllLeaveAlone train r happenings
+  alone : AllLeaveAlone train running r happenings
   driven : AreDrivenBy decoder running happenings
   time : time_in happenings ≡ micros
 
 -- one thing more, if anything
-joined : (train decoder : ℕ) (running : Running) (r : RailwayState) (here more : ℕ) (mid new : ServerState) (o : Option Happening) → mid.railway ≡ happened_to o (Some r) → IsLeftAlone train o (Some r) → Takes decoder running here o
+joined : (train decoder : ℕ) (running : Running) (r : RailwayState) (here more : ℕ) (mid new : ServerState) (o : Option Happening) → mid.railway ≡ happened_to o (Some r) → IsLeftAlone train running (here + more) o (Some r) → Takes decoder running here o
     → ((s : RailwayState) → mid.railway ≡ Some s → Ran train decoder running s more new) → Ran train decoder running r (here + more) new
 joined train decoder running r here more mid new None same alone takes rest =
     let ran = rest r same in
     record { happenings = ran.happenings; there = ran.there; alone = ran.alone; driven = ran.driven; time = omega (arith, ran.time, takes.time) }
 joined train decoder running r here more mid new (Some happening) same alone takes rest =
     let ran = rest (after r happening) same in
+    let all : here + more ≡ time_of happening + time_in ran.happenings = omega (arith, ran.time, takes.time) in
     record {
       happenings = happening ∷ ran.happenings;
       there = ran.there;
-      alone = (alone, ran.alone);
+      alone = (subst (λ (micros : ℕ). LeavesAlone train running micros r happening) all alone, ran.alone);
       driven = (takes.driven, ran.driven);
       time = omega (arith, ran.time, takes.time);
     }
@@ -210,7 +211,7 @@ module _ (laws : Laws) (goes_on : RunsOn) (so_far : SoFar) (asked : Assignment) 
       }
 
   goes : (train : ℕ) (later : List LoggedEvent) (so : List Event) (s new : ServerState) (r : RailwayState) → IsHeard asked start.bus before cycle (so ++ events_of later) → HasHeard (before ++ (cycle ++ so)) start s
-      → s.railway ≡ Some r → RunsLeavingAlone train later s new → Ran train asked.node (wanted_of asked) r (run_time_in s.bus (events_of later)) new
+      → s.railway ≡ Some r → RunsLeavingAlone train (wanted_of asked) later s new → Ran train asked.node (wanted_of asked) r (run_time_in s.bus (events_of later)) new
   goes train [] so s new r heard run has runs = record { happenings = []; there = runs.railway ∙ has; alone = tt; driven = tt; time = refl }
   goes train (one ∷ more) so s new r heard run has runs =
       let begun : ServerState = runs.0 in
@@ -232,7 +233,7 @@ module _ (laws : Laws) (goes_on : RunsOn) (so_far : SoFar) (asked : Assignment) 
       step.railway ∙ after-is begun nodes one.event ∙ ap (λ (o : Option RailwayState). happened_to (happening_in begun nodes one.event) o) has_begun in
       let ran : Ran train asked.node (wanted_of asked) r (run_time_in begun.bus (events_of (one ∷ more))) new =
       joined train asked.node (wanted_of asked) r (run_time begun.bus one.event) (run_time_in (after_event begun.bus one.event) (events_of more)) mid new (happening_in begun nodes one.event) same
-      (subst (λ (o : Option RailwayState). IsLeftAlone train (happening_in begun nodes one.event) o) has_begun runs.4)
+      (subst (λ (o : Option RailwayState). IsLeftAlone train (wanted_of asked) (run_time_in begun.bus (events_of (one ∷ more))) (happening_in begun nodes one.event) o) has_begun runs.4)
       (takes asked.node (wanted_of asked) begun mid one.event here behind)
       (λ now is. subst (λ (bus : BusState). Ran train asked.node (wanted_of asked) now (run_time_in bus (events_of more)) new) step.bus (goes train more on mid new now heard_then run_then is runs.5)) in
       subst (λ (bus : BusState). Ran train asked.node (wanted_of asked) r (run_time_in bus (events_of (one ∷ more))) new) layout.bus ran
@@ -253,4 +254,4 @@ slider_reaches_rail laws goes_on so_far as_driven asked before cycle later start
 
 pub rounds_reach_rail : SliderReachesRail → RoundsReachRail
 rounds_reach_rail reaches asked before cycle later start settled new none kept desk below stands heard run train no_train r has railway within own runs =
-    reaches asked before cycle later start settled new none kept desk below stands heard run train no_train r has railway within own (rounds_leave_alone train later settled new runs)
+    reaches asked before cycle later start settled new none kept desk below stands heard run train no_train r has railway within own (rounds_leave_alone train (wanted_of asked) later settled new runs)

@@ -19,8 +19,8 @@ pub fn rounds_are_a_run()
 }
 
 /// From slider to rail: after a cycle as the headline in time says it, while the slot says the same
-/// and the turnouts stay, a train has run as the slot asks for exactly the time since then: whatever
-/// the server does between the events of the layout, and whatever rounds a run has.
+/// and turnouts on the way stay, a train has run as the slot asks for exactly the time since then:
+/// whatever the server does between the events of the layout, and whatever rounds a run has.
 pub fn slider_reaches_rail()
     ensures events { SliderReachesRail }
     ensures rounds { RoundsReachRail }
