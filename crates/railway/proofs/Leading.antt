@@ -1,9 +1,10 @@
 -- Where joints and turnouts lead.
-use Rattle.std.proofs.Common.{◌≡◌, ◌++◌, ℕ, ◌<◌, ◌&&◌, true, Bool, List, [], ◌∷◌, Option, Some, None, length, map, refl, ap, sym, subst, ◌∙◌}
-use Rattle.std.proofs.lemmas.Bool.{and_from, and_parts, cond_both, ltb-true}
+use Rattle.std.proofs.Common.{◌≡◌, ◌++◌, ℕ, ◌<◌, ◌≤◌, ◌&&◌, true, Bool, List, [], ◌∷◌, Option, Some, None, length, map, refl, ap, sym, subst, ◌∙◌}
+use Rattle.std.proofs.lemmas.Bool.{and_from, and_parts, cond_both, leb-true, ltb-true}
+use Rattle.std.proofs.lemmas.List.{length-map}
 use Rattle.std.specs.List.{list_all}
 use Rattle.std.specs.Option.{option_or}
-use Rattle.std.specs.Prelude.{IfSome, IsTrue, nat_lt}
+use Rattle.std.specs.Prelude.{IfSome, IsTrue, nat_le, nat_lt}
 use Rattle.layout_core.specs.declared.node.Node.{Node}
 use Rattle.railway.specs.declared.block.BlockEnd.{BlockEnd}
 use Rattle.railway.specs.declared.joint.Joint.{Joint}
@@ -11,7 +12,7 @@ use Rattle.railway.specs.declared.joint.Turnout.{Turnout}
 use Rattle.railway.specs.declared.joint.TurnoutState.{TurnoutState}
 use Rattle.railway.specs.Blocks.{are_distinct, is_block, same_block_end}
 use Rattle.railway.specs.Ends.{are_apart, ends_of, is_end, is_joint, is_turnout}
-use Rattle.railway.specs.Network.{Network, across, as_joint, is_sound, joined, joints_of, partner, turnouts_of}
+use Rattle.railway.specs.Network.{Network, across, are_few, as_joint, is_sound, joined, joints_of, partner, turnouts_of}
 use Rattle.railway.specs.Turnouts.{advanced, moved_on, laid, observed}
 use Rattle.railway.proofs.Joining.{by-moving}
 
@@ -68,6 +69,7 @@ as_joints-of n (state ∷ states) h =
 -- What a sound network is.
 
 pub record Sound (network : Network) : Type 0 where
+  pub few : are_few network ≡ true
   pub lengths : list_all is_block network.blocks ≡ true
   pub sensors : are_distinct network.blocks ≡ true
   pub joints : list_all (is_joint (length network.blocks)) network.joints ≡ true
@@ -78,15 +80,26 @@ pub sound : (network : Network) → IsTrue (is_sound network) → Sound network
 sound network h =
     let n = length network.blocks in
     let states = turnouts_of network.turnouts in
+    let few : Bool = are_few network in
     let one : Bool = list_all is_block network.blocks in
     let two : Bool = are_distinct network.blocks in
     let three : Bool = list_all (is_joint n) network.joints in
     let four : Bool = list_all (is_turnout n) states in
-    let last = and_parts (one && two && three && four) (are_apart (ends_of network.joints states)) h in
-    let third = and_parts (one && two && three) four last.0 in
-    let second = and_parts (one && two) three third.0 in
-    let first = and_parts one two second.0 in
-    record { lengths = first.0; sensors = first.1; joints = second.1; turnouts = third.1; apart = last.1 }
+    let last = and_parts (few && one && two && three && four) (are_apart (ends_of network.joints states)) h in
+    let third = and_parts (few && one && two && three) four last.0 in
+    let second = and_parts (few && one && two) three third.0 in
+    let first = and_parts (few && one) two second.0 in
+    let start = and_parts few one first.0 in
+    record { few = start.0; lengths = start.1; sensors = first.1; joints = second.1; turnouts = third.1; apart = last.1 }
+
+pub record Small (network : Network) : Type 0 where
+  pub blocks : length network.blocks ≤ 64
+  pub turnouts : length network.turnouts ≤ 64
+
+pub small : (network : Network) → are_few network ≡ true → Small network
+small network h =
+    let parts = and_parts (nat_le (length network.blocks) 64) (nat_le (length network.turnouts) 64) h in
+    record { blocks = leb-true (length network.blocks) 64 parts.0; turnouts = leb-true (length network.turnouts) 64 parts.1 }
 
 append-all : (n : ℕ) (these those : List Joint) → list_all (is_joint n) these ≡ true → list_all (is_joint n) those ≡ true → list_all (is_joint n) (these ++ those) ≡ true
 append-all n [] those h g = g
@@ -112,8 +125,10 @@ pub changed-sound : (f : TurnoutState → TurnoutState) → ((state : TurnoutSta
     → IsTrue (is_sound (record network { turnouts = map f network.turnouts }))
 changed-sound f keeps network h =
     let n = length network.blocks in
-    let start : Bool = list_all is_block network.blocks && are_distinct network.blocks && list_all (is_joint n) network.joints in
-    subst (λ (turnouts : List Turnout). IsTrue (start && list_all (is_turnout n) turnouts && are_apart (ends_of network.joints turnouts))) (sym (same-turnouts f keeps network.turnouts)) h
+    let rest : ℕ → List Turnout → Bool = λ count turnouts.
+    nat_le n 64 && nat_le count 64 && list_all is_block network.blocks && are_distinct network.blocks && list_all (is_joint n) network.joints && list_all (is_turnout n) turnouts && are_apart (ends_of network.joints turnouts) in
+    subst (λ (turnouts : List Turnout). IsTrue (rest (length (map f network.turnouts)) turnouts)) (sym (same-turnouts f keeps network.turnouts))
+    (subst (λ (count : ℕ). IsTrue (rest count (turnouts_of network.turnouts))) (sym (length-map network.turnouts f)) h)
 
 pub laid-sound : (nodes : List Node) (network : Network) → IsTrue (is_sound network) → IsTrue (is_sound (laid nodes network))
 laid-sound nodes network h = changed-sound (observed nodes) (λ state. refl) network h

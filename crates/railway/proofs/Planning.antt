@@ -1,6 +1,7 @@
 -- A plan without faults is that of a railway.
 use Rattle.std.proofs.Common.{◌≡◌, ℕ, ◌+◌, ◌*◌, ◌<◌, ◌≤◌, ◌&&◌, Bool, true, false, not, List, [], ◌∷◌, Option, Some, None, length, map, zero, suc, refl, ap, sym, subst, ◌∙◌, arith}
-use Rattle.std.proofs.lemmas.Bool.{and_from, and_parts, leb-true, lt-ltb, ltb-true}
+use Rattle.std.proofs.lemmas.Bool.{and_from, and_parts, le-leb, leb-true, lt-ltb, ltb-true}
+use Rattle.std.proofs.lemmas.List.{length-map}
 use Rattle.std.specs.List.{list_all, slice_index_or}
 use Rattle.std.specs.Option.{option_map, option_or}
 use Rattle.std.specs.Prelude.{if◌then◌else◌, is_some, IsTrue, nat_le, nat_lt, slice_get}
@@ -24,7 +25,7 @@ use Rattle.railway.specs.Blocks.{are_distinct, default_block, is_block, is_block
 use Rattle.railway.specs.Ends.{are_apart, ends_of, has_end, is_joint, is_turnout, named_twice}
 use Rattle.railway.specs.Decoders.{is_loco}
 use Rattle.railway.specs.Faults.{block_behind, fault_of_block, fault_of_blocks, fault_of_joints, fault_of_motors, fault_of_track, fault_of_train, fault_of_trains, fault_of_turnouts, has_decoder, is_renamed, unless}
-use Rattle.railway.specs.Network.{Network, is_sound, marked, spans, turnouts_of, way_on}
+use Rattle.railway.specs.Network.{Network, are_few, is_sound, marked, spans, turnouts_of, way_on}
 use Rattle.railway.specs.Placement.{back_of, front_at, front_of, has_front, is_front, is_in_block, is_room, place_or, span_of, state_of_train, state_to}
 use Rattle.railway.specs.Places.{is_on_track, turned_place}
 use Rattle.railway.specs.Railway.{is_train}
@@ -189,8 +190,8 @@ trains_in_blocks specs n i (train ∷ trains) h =
 
 -- The track.
 
-pub planned-sound : (specs : List NodeSpec) (plan : Plan) → fault_of_track specs plan ≡ None → IsTrue (is_sound (network_of specs plan))
-planned-sound specs plan h =
+pub planned-sound : (specs : List NodeSpec) (plan : Plan) → length plan.blocks.items ≤ 64 → length plan.turnouts.items ≤ 64 → fault_of_track specs plan ≡ None → IsTrue (is_sound (network_of specs plan))
+planned-sound specs plan few_blocks few_turnouts h =
     let n = length plan.blocks.items in
     let one = or-none (fault_of_blocks 0 plan.blocks.items) _ h in
     let two = or-none (fault_of_joints n 0 plan.joints.items) _ one.1 in
@@ -205,8 +206,13 @@ planned-sound specs plan h =
     let d : Bool = list_all (is_joint n) plan.joints.items in
     let e : Bool = list_all (is_turnout n) plan.turnouts.items in
     let f : Bool = are_apart (ends_of plan.joints.items plan.turnouts.items) in
-    let all : (a && b && d && e && f) ≡ true = and_from (a && b && d && e) f (and_from (a && b && d) e (and_from (a && b) d (and_from a b blocks.0 blocks.1) joints) turnouts) ends in
-    subst (λ (ts : List Turnout). (a && b && d && list_all (is_turnout n) ts && are_apart (ends_of plan.joints.items ts)) ≡ true) (sym (turnouts-of-states specs plan.turnouts.items)) all
+    let few : Bool = are_few (network_of specs plan) in
+    let count : length (map (state_of_turnout specs) plan.turnouts.items) ≡ length plan.turnouts.items = length-map plan.turnouts.items (state_of_turnout specs) in
+    let most : length (map (state_of_turnout specs) plan.turnouts.items) ≤ 64 = omega (arith, count, few_turnouts) in
+    let are : few ≡ true = and_from (nat_le n 64) (nat_le (length (map (state_of_turnout specs) plan.turnouts.items)) 64) (le-leb n 64 few_blocks) (le-leb (length (map (state_of_turnout specs) plan.turnouts.items)) 64 most) in
+    let all : (few && a && b && d && e && f) ≡ true =
+    and_from (few && a && b && d && e) f (and_from (few && a && b && d) e (and_from (few && a && b) d (and_from (few && a) b (and_from few a are blocks.0) blocks.1) joints) turnouts) ends in
+    subst (λ (ts : List Turnout). (few && a && b && d && list_all (is_turnout n) ts && are_apart (ends_of plan.joints.items ts)) ≡ true) (sym (turnouts-of-states specs plan.turnouts.items)) all
 
 pub both-none : (one two : Option PlanFault) → one ≡ None → two ≡ None → option_or one two ≡ None
 both-none one two h g = ap (λ (o : Option PlanFault). option_or o two) h ∙ g

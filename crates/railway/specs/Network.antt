@@ -1,5 +1,5 @@
 -- The track: where it leads, and how a train runs on it.
-use Rattle.std.specs.Prelude.{ℕ, zero, suc, ◌+◌, ◌-◌, ◌≡◌, ◌⊎◌, ◌==◌, ◌<◌, ◌≤◌, ◌&&◌, ◌||◌, ◌++◌, Bool, true, not, if◌then◌else◌, List, [], ◌∷◌, length, map, Option, Some, None, slice_set}
+use Rattle.std.specs.Prelude.{ℕ, zero, suc, ◌+◌, ◌-◌, ◌≡◌, ◌⊎◌, ◌==◌, ◌<◌, ◌≤◌, ◌&&◌, ◌||◌, ◌++◌, Bool, true, nat_le, not, if◌then◌else◌, List, [], ◌∷◌, length, map, Option, Some, None, slice_set}
 use Rattle.std.specs.Bool.{beq}
 use Rattle.std.specs.Cmp.Lexicographic.{pointwise}
 use Rattle.std.specs.List.{list_all, list_any}
@@ -219,11 +219,15 @@ LeadsOn network place way next left =
 abbrev pub turnouts_of : List TurnoutState → List Turnout
 turnouts_of states = map (λ state. state.turnout) states
 
+-- a plan has at most 64 blocks and 64 turnouts
+abbrev pub are_few : Network → Bool
+are_few network = nat_le (length network.blocks) 64 && nat_le (length network.turnouts) 64
+
 -- a network of a plan without faults: blocks have their lengths, no sensor is used twice, joints and
 -- turnouts join ends of its blocks, and no end is named twice
 abbrev pub is_sound : Network → Bool
 is_sound network =
-    list_all is_block network.blocks && are_distinct network.blocks
+    are_few network && list_all is_block network.blocks && are_distinct network.blocks
     && list_all (is_joint (length network.blocks)) network.joints
     && list_all (is_turnout (length network.blocks)) (turnouts_of network.turnouts)
     && are_apart (ends_of network.joints (turnouts_of network.turnouts))

@@ -27,7 +27,8 @@ type Ends = ArrayVec<BlockEnd, MAX_ENDS>;
 
 /// Returns the first fault of the track of a plan for a layout with these decoders.
 pub(crate) fn fault_of_track(decoders: &[NodeSpec], plan: &Plan) -> Option<PlanFault>
-    ensures { result ≡ fault_of_track decoders.now plan.now }
+    ensures fault { result ≡ fault_of_track decoders.now plan.now }
+    ensures few { length plan.now.blocks.items ≤ 64 }
 {
     let blocks = plan.blocks.as_slice();
     let turnouts = plan.turnouts.as_slice();

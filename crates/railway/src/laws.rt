@@ -79,6 +79,14 @@ pub fn railways_are_kept()
     time_adds_up();
 }
 
+/// A railway has at most 64 blocks and 64 turnouts.
+pub fn railways_are_small()
+    ensures blocks { (railway : RailwayState)
+        → IsTrue (is_railway railway) → length railway.network.blocks ≤ 64 }
+    ensures turnouts { (railway : RailwayState)
+        → IsTrue (is_railway railway) → length railway.network.turnouts ≤ 64 }
+{}
+
 /// A train that nothing stops goes as far as its motor runs it, and stays on the rails. Its motor
 /// changes its velocity as its momentum says, one microsecond after another, whatever is ahead.
 pub fn ways_are_those_of_momentum()

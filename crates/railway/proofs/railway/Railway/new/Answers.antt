@@ -1,4 +1,4 @@
-use Rattle.std.proofs.Common.{◌≡◌, List, None, map, true, ap, subst, sym, ◌∙◌}
+use Rattle.std.proofs.Common.{◌≡◌, ◌≤◌, List, None, length, map, true, ap, subst, sym, ◌∙◌}
 use Rattle.std.proofs.lemmas.Bool.{and_from}
 use Rattle.std.specs.List.{list_all}
 use Rattle.std.specs.Prelude.{IsTrue}
@@ -19,15 +19,16 @@ use Rattle.railway.proofs.railway.Railway.new.Goals as goal
 
 -- The track has no fault, and its turnouts are those of the definition.
 
-sound_track : (specs : List NodeSpec) (plan : Plan) (states : List TurnoutState) → fault_of_track specs plan ≡ None → states ≡ map (state_of_turnout specs) plan.turnouts.items
+sound_track : (specs : List NodeSpec) (plan : Plan) (states : List TurnoutState) → length plan.blocks.items ≤ 64 → length plan.turnouts.items ≤ 64 → fault_of_track specs plan ≡ None → states ≡ map (state_of_turnout specs) plan.turnouts.items
     → IsTrue (is_sound (record (network_of specs plan) { turnouts = states }))
-sound_track specs plan states none same =
-    subst (λ (ts : List TurnoutState). IsTrue (is_sound (record (network_of specs plan) { turnouts = ts }))) (sym same) (planned-sound specs plan none)
+sound_track specs plan states few_blocks few_turnouts none same =
+    subst (λ (ts : List TurnoutState). IsTrue (is_sound (record (network_of specs plan) { turnouts = ts }))) (sym same) (planned-sound specs plan few_blocks few_turnouts none)
 
 pub invariant_of-track : goal.invariant_of-track
 invariant_of-track c =
     let specs = c.as_slice-decoders.result.now in
-    sound_track specs c.args.plan c.turnout_states-turnouts.result.items (sym c.fault_of_track.ensures ∙ c.in-None.is)
+    sound_track specs c.args.plan c.turnout_states-turnouts.result.items c.fault_of_track.ensures.few
+    (subst (λ (ts : List Turnout). length ts ≤ 64) c.as_slice.ensures.value c.as_slice.ensures.fits) (sym c.fault_of_track.ensures.fault ∙ c.in-None.is)
     (c.turnout_states-turnouts.ensures ∙ ap (λ (ts : List Turnout). map (state_of_turnout specs) ts) c.as_slice.ensures.value)
 
 -- Its trains have none there.
@@ -49,7 +50,8 @@ invariant_of-result c =
     ap (λ (ts : List Train). fault_of_all_trains specs n ts) (c.as_slice-3.ensures.value ∙ sym c.as_slice-2.ensures.value) ∙ sym c.fault_of_all_trains.ensures ∙ c.in-None-fault_of_all_trains.is in
     let none = or-none (fault_of_trains specs n 0 c.as_slice-3.result.now) (fault_of_speeds (shortest None n.blocks) 0 c.as_slice-3.result.now) all in
     let sound : IsTrue (is_sound n) =
-    sound_track specs c.args.plan c.turnout_states-turnouts.result.items (sym c.fault_of_track.ensures ∙ c.in-None.is)
+    sound_track specs c.args.plan c.turnout_states-turnouts.result.items c.fault_of_track.ensures.few
+    (subst (λ (ts : List Turnout). length ts ≤ 64) c.as_slice.ensures.value c.as_slice.ensures.fits) (sym c.fault_of_track.ensures.fault ∙ c.in-None.is)
     (c.turnout_states-turnouts.ensures ∙ ap (λ (ts : List Turnout). map (state_of_turnout specs) ts) c.as_slice.ensures.value) in
     and_from (is_sound n) (list_all (is_train n) c.train_states-trains.result.items) sound
     (subst (λ (ts : List TrainState). list_all (is_train n) ts ≡ true) (sym c.train_states-trains.ensures) (sound_trains specs n 0 c.as_slice-3.result.now sound none.0 (all-slow n.blocks c.as_slice-3.result.now none.1)))
