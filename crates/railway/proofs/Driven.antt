@@ -39,7 +39,7 @@ use Rattle.railway.proofs.Faulty.{failing-changes, no_turnout}
 use Rattle.railway.proofs.Keeping.{whole-of}
 use Rattle.railway.proofs.Pieces.{for-same-track, same-track}
 use Rattle.railway.proofs.Placing.{all-at}
-use Rattle.railway.proofs.Riding.{movable-of}
+use Rattle.railway.proofs.Riding.{Same, movable-of}
 use Rattle.railway.proofs.Running.{in-derails, in-reaches, in-same, in-stops, in-velocity, under-train}
 use Rattle.railway.proofs.Runs.{parts-of}
 use Rattle.railway.proofs.Throwing.{changed, checked-derailed, checked-stays, end_of_any, train-changed}
@@ -64,7 +64,7 @@ as-in n micros running t = ap (λ (r : Option Running). run_for n micros r t) (s
 
 -- Times of it add up.
 
-for-for : (n : Network) (running : Running) (these those : ℕ) (t : TrainState) → run_for n those (Some running) (run_for n these (Some running) t) ≡ run_for n (these + those) (Some running) t
+pub for-for : (n : Network) (running : Running) (these those : ℕ) (t : TrainState) → run_for n those (Some running) (run_for n these (Some running) t) ≡ run_for n (these + those) (Some running) t
 for-for n running these those t =
     let nodes : List Node = nodes_with t.decoder running in
     let mid : TrainState = run_in n these nodes t in
@@ -73,7 +73,7 @@ for-for n running these those t =
     ∙ ap (λ (r : Option Running). run_for n those r mid) (sym same)
     ∙ in-in n nodes these those t ∙ sym (as-in n (these + those) running t)
 
-for-zero : (n : Network) (running : Option Running) (t : TrainState) → is_train n t ≡ true → run_for n 0 running t ≡ t
+pub for-zero : (n : Network) (running : Option Running) (t : TrainState) → is_train n t ≡ true → run_for n 0 running t ≡ t
 unfolding ridden
 for-zero n running t h = elim (cases_Bool (is_derailed t)) [
   | inl derailed ↦ ap (λ (b : Bool). if b then t else marked n t) derailed
@@ -97,10 +97,13 @@ failing-alike switch n = for-same-track (failing_by switch) n (same-track (faili
 
 -- A train of which the way stays, while time passes.
 
-for-decoder : (n : Network) (micros : ℕ) (running : Running) (t : TrainState) → (run_for n micros (Some running) t).decoder ≡ t.decoder
-for-decoder n micros running t = ap (λ (u : TrainState). u.decoder) (as-in n micros running t) ∙ (in-same n micros (nodes_with t.decoder running) t).decoder
+pub for-same : (n : Network) (micros : ℕ) (running : Running) (t : TrainState) → Same t (run_for n micros (Some running) t)
+for-same n micros running t = subst (λ (u : TrainState). Same t u) (sym (as-in n micros running t)) (in-same n micros (nodes_with t.decoder running) t)
 
-for-train : (n : Network) (micros : ℕ) (running : Running) (t : TrainState) → IsTrue (is_sound n) → is_train n t ≡ true → is_train n (run_for n micros (Some running) t) ≡ true
+for-decoder : (n : Network) (micros : ℕ) (running : Running) (t : TrainState) → (run_for n micros (Some running) t).decoder ≡ t.decoder
+for-decoder n micros running t = (for-same n micros running t).decoder
+
+pub for-train : (n : Network) (micros : ℕ) (running : Running) (t : TrainState) → IsTrue (is_sound n) → is_train n t ≡ true → is_train n (run_for n micros (Some running) t) ≡ true
 for-train n micros running t sound h =
     ap (λ (u : TrainState). is_train n u) (as-in n micros running t) ∙ under-train PowerOn n micros (nodes_with t.decoder running) t sound h
 

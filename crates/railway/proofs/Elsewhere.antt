@@ -1,8 +1,8 @@
 -- A train runs as it would while turnouts elsewhere than on its way move.
-use Rattle.std.proofs.Common.{◌≡◌, ℕ, zero, suc, ◌+◌, ◌-◌, ◌*◌, ◌<◌, ◌≤◌, ◌==◌, ◌&&◌, Bool, true, false, not, inl, inr, List, [], ◌∷◌, Option, Some, None, length, map, refl, ap, ap₂, sym, subst, ◌∙◌, arith}
+use Rattle.std.proofs.Common.{◌≡◌, ℕ, zero, suc, ◌+◌, ◌-◌, ◌*◌, ◌<◌, ◌==◌, ◌&&◌, Bool, true, false, not, inl, inr, List, [], ◌∷◌, Option, Some, None, map, refl, ap, ap₂, sym, subst, ◌∙◌, arith}
 use Rattle.std.proofs.lemmas.Bool.{and_from, and_parts, cases_Bool, eqb-true}
 use Rattle.std.proofs.lemmas.List.Elements.{All-head, All-tail}
-use Rattle.std.specs.List.{list_any, slice_index_or}
+use Rattle.std.specs.List.{slice_index_or}
 use Rattle.std.specs.Prelude.{if◌then◌else◌, All, IsTrue, is_some}
 use Rattle.decoder_node.specs.declared.running.Running.{Running}
 use Rattle.layout_core.specs.declared.node.Node.{Node}
@@ -20,7 +20,7 @@ use Rattle.railway.specs.Driven.{trailing_end, next_velocity_of, reaches, stays}
 use Rattle.railway.specs.Network.{Network, first_at, is_end_of, is_sound, leaves_at, marked, off_rails, onward, run_on, spans, step, stepped, way_on}
 use Rattle.railway.specs.Places.{end_ahead, is_derailed, span, still, to_end, turned}
 use Rattle.railway.specs.Railway.{is_train}
-use Rattle.railway.specs.Running.{is_within, moved_at, ridden, rode, run_by, run_for}
+use Rattle.railway.specs.Running.{is_within, ridden, rode, run_by, run_for}
 use Rattle.railway.specs.Trains.{drive_of}
 use Rattle.railway.specs.Turnouts.{advanced, is_moved, moved_on, observed, same_bool, side_in}
 use Rattle.railway.proofs.Facts.{not-both, or-none}
@@ -33,7 +33,7 @@ use Rattle.railway.proofs.Ways.{run_on-derailed}
 -- Turnouts that a way does not reach.
 
 -- a way that leads to an end of a turnout reaches it
-reaches-there : (n : Network) (p q : Place) (way part : ℕ) (state : TurnoutState) → part < way → way_on n p part ≡ Some q → leaves_at (λ end. is_end_of end state) n q ≡ true → reaches n p way state ≡ true
+pub reaches-there : (n : Network) (p q : Place) (way part : ℕ) (state : TurnoutState) → part < way → way_on n p part ≡ Some q → leaves_at (λ end. is_end_of end state) n q ≡ true → reaches n p way state ≡ true
 reaches-there n p q way part state less there leaves = by (first_at (λ end. is_end_of end state) n p way) refl where
   by : (found : Option Place) → first_at (λ end. is_end_of end state) n p way ≡ found → reaches n p way state ≡ true
   by (Some place) e = ap (λ (o : Option Place). is_some o) e
@@ -175,10 +175,10 @@ by-elsewhere f is c n false t way sound within h none = ap (λ (u : TrainState).
 pub for-derailed : (n : Network) (micros : ℕ) (running : Option Running) (t : TrainState) → is_derailed t ≡ true → run_for n micros running t ≡ t
 for-derailed n micros running t h = ap (λ (b : Bool). if b then t else marked n (ridden n (drive_of t running) micros t)) h
 
-for-rails : (n : Network) (micros : ℕ) (running : Option Running) (t : TrainState) → is_derailed t ≡ false → run_for n micros running t ≡ marked n (ridden n (drive_of t running) micros t)
+pub for-rails : (n : Network) (micros : ℕ) (running : Option Running) (t : TrainState) → is_derailed t ≡ false → run_for n micros running t ≡ marked n (ridden n (drive_of t running) micros t)
 for-rails n micros running t h = ap (λ (b : Bool). if b then t else marked n (ridden n (drive_of t running) micros t)) h
 
-one-ridden : (n : Network) (d : Drive) (t : TrainState) → ridden n d 1 t ≡ rode n d t
+pub one-ridden : (n : Network) (d : Drive) (t : TrainState) → ridden n d 1 t ≡ rode n d t
 unfolding ridden
 one-ridden n d t = refl
 

@@ -27,6 +27,7 @@ pub mod Sensors
 pub mod Observing
 pub mod Elsewhere
 pub mod Driven
+pub mod Reached
 pub mod Premises
 pub mod Unseen
 pub mod Sensing

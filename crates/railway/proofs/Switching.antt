@@ -53,7 +53,7 @@ has-last end [] those h = h
 has-last end (other ∷ these) those h = or-right-true (same_block_end end other) (has_end end (these ++ those)) (has-last end these those h)
 
 -- an end among the last is not among the first
-apart-first : (end : BlockEnd) (these those : List BlockEnd) → are_apart (these ++ those) ≡ true → has_end end those ≡ true → has_end end these ≡ false
+pub apart-first : (end : BlockEnd) (these those : List BlockEnd) → are_apart (these ++ those) ≡ true → has_end end those ≡ true → has_end end these ≡ false
 apart-first end [] those h g = refl
 apart-first end (other ∷ these) those h g =
     let parts = and_parts (not (has_end other (these ++ those))) (are_apart (these ++ those)) h in
@@ -88,7 +88,7 @@ three false true c x y z rest f g k h = or-right-true x _ (or-left-true y _ (g r
 three false false c x y z rest f g k h = or-right-true x _ (or-right-true y _ (or-left-true z _ (k h)))
 
 -- an end of a turnout is one of its three
-end-has : (state : TurnoutState) (end : BlockEnd) (rest : List BlockEnd) → is_end_of end state ≡ true
+pub end-has : (state : TurnoutState) (end : BlockEnd) (rest : List BlockEnd) → is_end_of end state ≡ true
     → has_end end (state.turnout.common ∷ state.turnout.closed ∷ state.turnout.thrown ∷ rest) ≡ true
 end-has state end rest h =
     three (same_block_end state.turnout.common end) (same_block_end state.turnout.closed end) (same_block_end state.turnout.thrown end)

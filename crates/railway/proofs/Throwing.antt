@@ -37,7 +37,7 @@ first-here : (is : BlockEnd → Bool) (n : Network) (p : Place) (way : ℕ) → 
 unfolding first_at
 first-here is n p way h = ap (λ (b : Bool). if b then Some p else option_and_then (λ next. first_at is n next way) (place_of (onward n p))) h
 
-first-other : (is : BlockEnd → Bool) (n : Network) (p : Place) (way : ℕ) → leaves_at is n p ≡ false → first_at is n p (suc way) ≡ option_and_then (λ next. first_at is n next way) (place_of (onward n p))
+pub first-other : (is : BlockEnd → Bool) (n : Network) (p : Place) (way : ℕ) → leaves_at is n p ≡ false → first_at is n p (suc way) ≡ option_and_then (λ next. first_at is n next way) (place_of (onward n p))
 unfolding first_at
 first-other is n p way h = ap (λ (b : Bool). if b then Some p else option_and_then (λ next. first_at is n next way) (place_of (onward n p))) h
 

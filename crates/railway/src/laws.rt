@@ -20,7 +20,7 @@ ghost use Rattle.railway.specs.declared.train.TrainState.{TrainState};
 ghost use Rattle.railway.specs.declared.turnout_report.TurnoutReport.{TurnoutReport};
 ghost use Rattle.railway.specs.Blocks.{default_block, length_of};
 ghost use Rattle.railway.specs.Conflicts.{conflict_in};
-ghost use Rattle.railway.specs.Driven.{AllLeaveAlone, AreDrivenBy, HasRun, time_in};
+ghost use Rattle.railway.specs.Driven.{AllLeaveAlone, AreDrivenBy, HasRun, IsOnWayOf, reaches, time_in, trailing_end, way_asked};
 ghost use Rattle.railway.specs.Course.{Happening, after, after_all, movements_of, movements_of_all, reports_of_all};
 ghost use Rattle.railway.specs.Laws.{AreChanges, AreCompleted, HasAllBlocks, IsCompleted, IsConflict, IsOnRails, IsOnWay, IsSensedAt, StandsBetween, is_among, is_failure, is_moving_end, is_sensor_failure, is_time, leading, runs_only, speed_times_time, train_after, velocity_of, way_of};
 ghost use Rattle.railway.specs.Failures.{failing_by, has_switch, none_failing, with_sensor};
@@ -131,8 +131,8 @@ pub fn ways_are_speed_times_time()
 }
 
 /// A train whose decoder runs the same through all that happens, and that is left alone, has run so
-/// for all of the time: at its speed times the time, or at its speed after its ramp. Turnouts that are
-/// not on its way may move.
+/// for all of the time: at its speed times the time, or at its speed after its ramp. Turnouts that
+/// are not on its way may move.
 pub fn trains_run_as_driven()
     ensures { (railway : RailwayState) (happenings : List Happening) (i : ℕ) (none : TrainState)
         (running : Running) → IsTrue (is_railway railway) → i < length railway.trains
@@ -146,6 +146,17 @@ pub fn trains_run_as_driven()
     ways_are_speed_times_time();
     motion::laws::ramps_end();
 }
+
+/// Without momentum the turnouts on the way of a train are those that the track reaches from its
+/// trailing end, over its length and its speed times the time: up to the place to which it runs.
+pub fn turnouts_on_ways_are_reached()
+    ensures reached { (network : Network) (running : Running) (micros : ℕ) (train : TrainState)
+        (i : ℕ) (none : TurnoutState) → IsTrue (is_sound network) → IsTrue (is_train network train)
+        → train.momentum ≡ None → i < length network.turnouts
+        → IsOnWayOf network running micros train (slice_index_or network.turnouts i none)
+        → IsTrue (reaches network (trailing_end running.forward train)
+        (span train + way_asked running micros train) (slice_index_or network.turnouts i none)) }
+{}
 
 /// A train whose decoder is to stop brakes over exactly its braking distance, and then stands; this
 /// takes a microsecond more than its speed over its braking.
