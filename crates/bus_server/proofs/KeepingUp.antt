@@ -48,7 +48,7 @@ use Rattle.bus_server.proofs.Going.{log-append}
 use Rattle.bus_server.proofs.Keeping.{enqueued_there, joined_one, none_of_both, none_set, only_joins, only_leaves, left_is_not_late, put_keeps, row_before, row_behind, set_at}
 use Rattle.bus_server.proofs.Placing.{length-enqueued}
 use Rattle.bus_server.proofs.Rounding.{accepts_apply, accepts_unread, early_applies, early_unread}
-use Rattle.bus_server.proofs.Sizes.{HasFew, HasFewParts, Limits, answered_request, text_size, event_few, message_size, none_due, owed, request_most}
+use Rattle.bus_server.proofs.Sizes.{HasFew, HasFewParts, Limits, answered_request, text_size, event_few, few_first, message_size, none_due, owed, request_most}
 
 -- What is queued for a client, and with it what is still due, which is at most as many bytes; nothing has overflowed.
 
@@ -744,4 +744,4 @@ pub stays_connected : Limits → (client most : ℕ) (rounds : List Round) (old 
 stays_connected same client most rounds old new rest among eight here runs up =
     let none : owed old.unreported ≡ 0 = ap owed rest.0 in
     let empty : size client old ≡ 0 = ap length here.0 in
-    rounds_keep same client most rounds old new among runs up (omega (arith, among, eight), omega (arith, none, empty), here.1, (omega (arith, none), rest.1))
+    rounds_keep same client most rounds old new among runs up (omega (arith, among, eight), omega (arith, none, empty), here.1, (omega (arith, none), few_first same old.railway rest.1))

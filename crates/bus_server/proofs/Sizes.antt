@@ -1,6 +1,6 @@
 -- How long the text of a request is, and of what is due at once.
 use Rattle.std.proofs.Common.{◌≡◌, ◌∙◌, ℕ, suc, ◌+◌, ◌*◌, ◌≤◌, Bool, true, false, if◌then◌else◌, List, [], ◌∷◌, ◌++◌, length, Option, Some, None, refl, ap, subst, sym, arith}
-use Rattle.std.specs.Prelude.{◌==◌, Err, IfSome, Ok, Result}
+use Rattle.std.specs.Prelude.{◌==◌, Err, IfSome, IsTrue, Ok, Result}
 use Rattle.std.specs.List.{find}
 use Rattle.std.specs.Option.{option_and_then, option_map, option_or}
 use Rattle.std.proofs.lemmas.Bool.{leb-true}
@@ -20,7 +20,7 @@ use Rattle.railway.specs.declared.turnout_report.TurnoutReport.{TurnoutReport}
 use Rattle.railway.specs.Feedback as turnout
 use Rattle.railway.specs.Feedback.{full_turnouts, is_with_feedback, movement_of, movements, turnout_report_bytes, requested_switch, side_report, state_bytes, state_answer}
 use Rattle.railway.specs.Network.{turnouts_of}
-use Rattle.railway.specs.Railway.{RailwayState, elapsed, is_sensed, is_sensed_in}
+use Rattle.railway.specs.Railway.{RailwayState, elapsed, is_railway, is_sensed, is_sensed_in}
 use Rattle.railway.specs.Reports.{change_of, changes, changes_from, changes_through, full_from, level_of, onto}
 use Rattle.text.specs.Hex.{hex_words}
 use Rattle.loconet_tcp.specs.ClientLines.{device_text, line_end, place_text, receive_text, sent_error_text, sent_ok_text, turns_text}
@@ -46,7 +46,6 @@ use Rattle.bus.specs.declared.event.Event.TheVariants.{Connects, Disconnects, El
 use Rattle.bus.specs.Bus.{BusState, client_of, granted, is_event, outcome_of_request, reply_to, request_at}
 use Rattle.bus_server.specs.Observations.{Observation}
 use Rattle.bus_server.specs.ServerState.{RunsEvent, ServerState}
-use Rattle.bus_server.specs.KeepUp.{AreFewParts}
 use Rattle.programmer.specs.declared.reply.TaskReply.{TaskReply}
 use Rattle.programmer.specs.declared.reply.TaskReply.TheVariants.{Accepted as TaskAccepted, Busy, NotImplemented, Data}
 use Rattle.programmer.specs.declared.task_result.TaskResult.{TaskResult}
@@ -297,6 +296,10 @@ full_turnouts_most [] = omega arith
 full_turnouts_most (state ∷ states) = omega (arith, full_turnouts_most states, turnout_onto (side_report state) (full_turnouts states))
 
 -- a railway has at most 64 blocks and turnouts
+pub record AreFewParts (railway : RailwayState) : Type 0 where
+  pub blocks : length railway.network.blocks ≤ 64
+  pub turnouts : length railway.network.turnouts ≤ 64
+
 abbrev pub HasFewParts : Option RailwayState → Type 0
 HasFewParts railway = IfSome railway AreFewParts
 
@@ -361,10 +364,11 @@ requested_most names bus client (Some (States things)) railway few = omega arith
 requested_most names bus client (Some (Place placement)) railway few = placed_most names client placement railway few
 requested_most names bus client (Some (Device request)) railway few = device_due_most (happening_by request) railway few
 
--- what a railway promises, that its blocks and turnouts stay whatever happens; a station, how long its turns are; a
+-- what a railway promises, that it is small, and that its blocks and turnouts stay whatever happens; a station, how long its turns are; a
 -- programming track, that few packets end in a time; and the text of clients, how long a line is
 pub record Limits : Type 0 where
   pub lines : AreShortLines
+  pub few : (railway : RailwayState) → IsTrue (is_railway railway) → AreFewParts railway
   pub blocks : (railway : RailwayState) (happening : Happening) → (after railway happening).network.blocks ≡ railway.network.blocks
   pub turnouts : (railway : RailwayState) (happening : Happening) → turnouts_of (after railway happening).network.turnouts ≡ turnouts_of railway.network.turnouts
   pub turns : TurnsAreBounded
@@ -412,6 +416,11 @@ few_after same railway happening few =
       blocks = subst (λ (blocks : List Block). length blocks ≤ 64) (sym (same.blocks railway happening)) few.blocks;
       turnouts = omega (arith, many, most);
     }
+
+-- as every railway does
+pub few_first : Limits → (railway : Option RailwayState) → IfSome railway (λ one. IsTrue (is_railway one)) → HasFewParts railway
+few_first laws None h = h
+few_first laws (Some railway) h = laws.few railway h
 
 few_elapsed : Limits → (railway : Option RailwayState) (micros : ℕ) (power : Power) (nodes : List Node) → HasFewParts railway → HasFewParts (railway_elapsed railway micros power nodes)
 few_elapsed same None micros power nodes few = few

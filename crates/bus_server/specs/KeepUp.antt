@@ -1,7 +1,7 @@
 -- A client that keeps up is not disconnected by the server.
-use Rattle.std.specs.Prelude.{ℕ, ◌≡◌, ◌<◌, ◌≤◌, ◌==◌, Bool, false, IfSome, List, [], length}
+use Rattle.std.specs.Prelude.{ℕ, ◌≡◌, ◌<◌, ◌==◌, Bool, false, IfSome, IsTrue, List, [], length}
 use Rattle.std.specs.List.{list_any}
-use Rattle.railway.specs.Railway.{RailwayState}
+use Rattle.railway.specs.Railway.{is_railway}
 use Rattle.bus_server.specs.ServerState.{ServerState, has_overflowed}
 use Rattle.bus_server.specs.Rounds.{HasEmptyQueue, WritesInARow}
 use Rattle.bus_server.specs.Running.{Round, RunsRounds, transport_log}
@@ -25,14 +25,10 @@ KeepsUp client log = (list_any (is_blocked client) log ≡ false) × (WritesInAR
 abbrev pub IsUpToDate : (client : ℕ) → ServerState → Type 0
 IsUpToDate client state = HasEmptyQueue client state × (has_overflowed state client ≡ false)
 
--- a railway has at most the 64 blocks and turnouts of a plan
-pub record AreFewParts (railway : RailwayState) : Type 0 where
-  pub blocks : length railway.network.blocks ≤ 64
-  pub turnouts : length railway.network.turnouts ≤ 64
-
--- Nothing is still to report, and the railway beside the bus, if there is one, is of a plan.
+-- nothing is still to report, and what holds of every railway holds of the one beside the bus
 abbrev pub IsAtRest : ServerState → Type 0
-IsAtRest state = (state.unreported ≡ []) × IfSome state.railway AreFewParts
+IsAtRest state =
+    (state.unreported ≡ []) × IfSome state.railway (λ railway. IsTrue (is_railway railway))
 
 -- In a run of a server that begins when nothing is queued for a client, the server does not close its
 -- connection if it keeps up, whatever the other clients do and however much devices report.

@@ -46,6 +46,7 @@ pub fn fronts_are_written()
 pub fn stays_connected()
     ensures { StaysConnected }
 {
+    railway::laws::railways_are_small();
     railway::laws::railways_are_kept();
     bus::laws::turns_are_bounded();
     programming_track::laws::ends_are_few();

@@ -6,6 +6,7 @@ pub returns : goal.returns
 returns c =
     let laws : Limits = record {
       lines = λ kept byte message sends. c.received_lines_are_short.ensures message (c.requested_message_is_whole.ensures kept byte message sends);
+      few = λ railway is. record { blocks = c.railways_are_small.ensures.blocks railway is; turnouts = c.railways_are_small.ensures.turnouts railway is };
       blocks = c.railways_are_kept.ensures.blocks;
       turnouts = c.railways_are_kept.ensures.turnouts;
       turns = c.turns_are_bounded.ensures;
