@@ -22,7 +22,7 @@ use Rattle.railway.specs.Network.{Network, is_end_of, is_moving, lies, way_on}
 use Rattle.railway.specs.Places.{is_derailed, leading_end, span, turned_place}
 use Rattle.railway.specs.Railway.{RailwayState, elapsed, is_sensed, run_under}
 use Rattle.railway.specs.Reports.{occupies}
-use Rattle.railway.specs.Trains.{drive_of, is_forward, running_in, speed_of}
+use Rattle.railway.specs.Trains.{default_state, drive_of, is_forward, running_in, speed_of}
 use Rattle.railway.specs.Turnouts.{checked, laid, same_bool}
 
 -- the place is in a block of the plan, within its length
@@ -121,6 +121,20 @@ pub record IsSensedAt (railway : RailwayState) (micros : ℕ) (power : Power) (n
   pub moment : ℕ
   pub within : moment ≤ micros
   pub sensed : IsTrue (is_sensed (elapsed railway moment power nodes) block)
+
+-- A part of a train is in the block of a sensor at a moment of them, and the sensor does not fail as
+-- free.
+pub record IsVisited (railway : RailwayState) (micros : ℕ) (power : Power) (nodes : List Node)
+    (block sensor : ℕ) : Type 0 where
+  pub of_plan : block < length railway.network.blocks
+  pub has_sensor : (slice_index_or railway.network.blocks block default_block).sensor ≡ Some sensor
+  pub works : slice_index_or railway.failing.free block false ≡ false
+  pub train : ℕ
+  pub of_railway : train < length railway.trains
+  pub moment : ℕ
+  pub within : moment ≤ micros
+  pub there : IsTrue (occupies block
+      (slice_index_or (elapsed railway moment power nodes).trains train default_state))
 
 -- A report is one of a change: that of a block as occupied is of a sensor that found it free before
 -- and occupied at a moment of the time; that of a block as free of one that found it occupied, before

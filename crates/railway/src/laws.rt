@@ -22,7 +22,7 @@ ghost use Rattle.railway.specs.Blocks.{default_block, length_of};
 ghost use Rattle.railway.specs.Conflicts.{conflict_in};
 ghost use Rattle.railway.specs.Driven.{AllLeaveAlone, AreDrivenBy, HasRun, IsOnWayOf, reaches, time_in, trailing_end, way_asked};
 ghost use Rattle.railway.specs.Course.{Happening, after, after_all, movements_of, movements_of_all, reports_of_all};
-ghost use Rattle.railway.specs.Laws.{AreChanges, AreCompleted, HasAllBlocks, IsCompleted, IsConflict, IsOnRails, IsOnWay, IsSensedAt, StandsBetween, is_among, is_failure, is_moving_end, is_sensor_failure, is_time, leading, runs_only, speed_times_time, train_after, velocity_of, way_of};
+ghost use Rattle.railway.specs.Laws.{AreChanges, AreCompleted, HasAllBlocks, IsCompleted, IsConflict, IsOnRails, IsOnWay, IsSensedAt, IsVisited, StandsBetween, is_among, is_failure, is_moving_end, is_sensor_failure, is_time, leading, runs_only, speed_times_time, train_after, velocity_of, way_of};
 ghost use Rattle.railway.specs.Failures.{failing_by, has_switch, none_failing, with_sensor};
 ghost use Rattle.railway.specs.Feedback.{full_turnouts, is_alone, turnout_report_bytes, side_after, turnout_report_of};
 ghost use Rattle.railway.specs.Network.{Network, exit_of, is_sound, lies, onward, switch_at, turnouts_of, way_on};
@@ -358,22 +358,12 @@ pub fn reports_are_changes()
 /// occupied, unless it was before, and as free, if it is so in the end; also if the train turns round
 /// and leaves the block again, whatever turnouts do. Only a sensor that fails reports otherwise.
 pub fn nothing_passes_unseen()
-    ensures occupied { (railway : RailwayState) (micros moment : ℕ) (power : Power)
-        (nodes : List Node) (i block sensor : ℕ) (none : TrainState)
-        → i < length railway.trains → moment ≤ micros
-        → IsTrue (occupies block (slice_index_or (elapsed railway moment power nodes).trains i none))
-        → slice_index_or railway.failing.free block false ≡ false
-        → block < length railway.network.blocks
-        → (slice_index_or railway.network.blocks block default_block).sensor ≡ Some sensor
+    ensures occupied { (railway : RailwayState) (micros : ℕ) (power : Power) (nodes : List Node)
+        (block sensor : ℕ) → IsVisited railway micros power nodes block sensor
         → is_sensed railway block ≡ false
         → IsTrue (has_report sensor true (reports_in railway micros power nodes)) }
-    ensures free { (railway : RailwayState) (micros moment : ℕ) (power : Power)
-        (nodes : List Node) (i block sensor : ℕ) (none : TrainState)
-        → i < length railway.trains → moment ≤ micros
-        → IsTrue (occupies block (slice_index_or (elapsed railway moment power nodes).trains i none))
-        → slice_index_or railway.failing.free block false ≡ false
-        → block < length railway.network.blocks
-        → (slice_index_or railway.network.blocks block default_block).sensor ≡ Some sensor
+    ensures free { (railway : RailwayState) (micros : ℕ) (power : Power) (nodes : List Node)
+        (block sensor : ℕ) → IsVisited railway micros power nodes block sensor
         → is_sensed (elapsed railway micros power nodes) block ≡ false
         → IsTrue (has_report sensor false (reports_in railway micros power nodes)) }
     ensures moments { (railway : RailwayState) (micros : ℕ) (power : Power) (nodes : List Node)
