@@ -1,5 +1,5 @@
 //! What a program does between two rounds, as sending decoder states and trains to pages.
-ghost use Rattle.std.specs.Prelude.{◌≡◌, ◌∷◌, [], Bool, List, Option, map, option_copied};
+ghost use Rattle.std.specs.Prelude.{◌≡◌, ◌∷◌, [], Bool, List, None, Option, map, option_copied};
 ghost use Rattle.input_text.specs.Write.{failed_after};
 ghost use Rattle.layout_core.specs.Nodes.{spec_of};
 ghost use Rattle.bus.specs.Log.{Extends};
@@ -21,10 +21,10 @@ pub trait AfterRound<W: Transport, P: Observer> {
     ghost failed: { Self → Bool };
 
     /// What each call so far was given, in order, if it is known.
-    ghost shown: { Self → Option (List Shown) };
+    ghost shown: { Self → Option (List Shown) } = { λ _. None };
 
     /// The moment at which the run began that it follows, if that is known.
-    ghost begun: { Self → Option RunSnapshot };
+    ghost begun: { Self → Option RunSnapshot } = { λ _. None };
 
     /// Does it, for a layout and the railway beside it, if there is one. Nothing is read or written
     /// for the bus, and nothing is observed. It may rely on the whole run so far.

@@ -1,6 +1,6 @@
 //! What follows a round: pages receive the states of decoders and trains, and the queued lines of the
 //! log are written.
-ghost use Rattle.std.specs.Prelude.{None, false};
+ghost use Rattle.std.specs.Prelude.{false};
 
 use crate::standard_output::StandardOutput;
 use bus_log::Printer;
@@ -17,10 +17,6 @@ impl<'s, 'p, R: Clock, O: Write> AfterRound<Sockets<'s, R>, Printer<'p>> for Sta
     type Fault = Infallible;
 
     ghost failed = { λ _. false };
-
-    ghost shown = { λ _. None };
-
-    ghost begun = { λ _. None };
 
     fn after_round(
         &mut self,

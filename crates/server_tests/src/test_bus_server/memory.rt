@@ -280,10 +280,6 @@ impl<W: Transport, P: Observer> AfterRound<W, P> for NoPages {
 
     ghost failed = { λ _. false };
 
-    ghost shown = { λ _. None };
-
-    ghost begun = { λ _. None };
-
     fn after_round(
         &mut self,
         _transport: &mut W,
