@@ -6,6 +6,7 @@ use crate::standard_output::StandardOutput;
 use bus_log::Printer;
 use bus_server::AfterRound;
 use layout_core::World;
+use pages::Shown;
 use railway::Railway;
 use sockets::Sockets;
 use std::convert::Infallible;
@@ -25,7 +26,12 @@ impl<'s, 'p, R: Clock, O: Write> AfterRound<Sockets<'s, R>, Printer<'p>> for Sta
         world: &World,
         railway: Option<&Railway>,
     ) -> Result<(), Infallible> {
-        transport.update_pages(&mut self.updates, printer.roster(), world, railway);
+        let shown = Shown {
+            roster: printer.roster(),
+            world,
+            railway,
+        };
+        transport.update_pages(&mut self.updates, &shown);
         // The output notes a failed write. The lines stay queued, and are tried again after the next round.
         let _ = printer.write_queued(self, Duration::ZERO);
         Ok(())

@@ -7,7 +7,7 @@ ghost use Rattle.layout_core.specs.DecoderStates.{decoder_state_of};
 ghost use Rattle.layout_core.specs.Nodes.{spec_of};
 ghost use Rattle.roster.specs.Decoders.{decoder_name, entries_of, specs_of};
 ghost use Rattle.roster.specs.Entry.{Entry};
-ghost use Rattle.pages.specs.Items.{block_message, item_messages, item_states, joint_message, line_at, max_items, node_message, parts_of, plan_messages, plan_states, same_item_state, state_of_turnout, turnout_message};
+ghost use Rattle.pages.specs.Items.{block_message, item_messages, item_states, joint_message, max_items, node_message, parts_of, plan_messages, plan_states, same_item_state, state_of_turnout, turnout_message};
 ghost use Rattle.railway_text.specs.TrainPlace.{place_of, train_line};
 
 use crate::words::{Message, push_end, push_point};
@@ -19,7 +19,6 @@ use railway::{
 };
 use railway_text::{TrainPlace, side_of};
 use roster::{Roster, decoder_name};
-use show_text::Line;
 use text::push_number;
 
 /// The most items that pages are told of.
@@ -165,26 +164,14 @@ fn node_message(roster: Option<&Roster>, world: &World, decoder: usize) -> Messa
 {
     let mut message = Message::new();
     message.push_str("NODE ");
-    message.push_str(node_line(roster, world, decoder).as_str());
+    // Without a roster there are no decoders.
+    if let Some(roster) = roster {
+        let specs = roster.nodes();
+        let state = world.decoder_state(decoder);
+        let line = state.line(roster.name(decoder), &specs.as_slice()[decoder]);
+        message.push_str(line.as_str());
+    }
     message
-}
-
-/// Returns the line of a decoder, by its index in the roster.
-fn node_line(roster: Option<&Roster>, world: &World, decoder: usize) -> Line
-    requires decoders { map spec_of world.now.nodes ≡ specs_of (entries_of roster) }
-    requires decoder { decoder < length world.now.nodes }
-    ensures { (entry : Entry) → (node : Node) → result.bytes
-        ≡ line_at (slice_index_or (entries_of roster.entry) decoder entry)
-        (decoder_state_of (slice_index_or world.now.nodes decoder node)) }
-{
-    let Some(roster) = roster else {
-        // Without a roster there are no decoders.
-        return Line::new();
-    };
-    let specs = roster.nodes();
-    world
-        .decoder_state(decoder)
-        .line(roster.name(decoder), &specs.as_slice()[decoder])
 }
 
 /// Returns the message of a part of the plan or of a train.

@@ -1,12 +1,13 @@
 //! What pages are told: the states of the decoders, the plan and its trains, and what messages say.
 //!
 //! An [`Updates`] tracks what the page of each client has not received of these states, and sends it
-//! to the [`Clients`] of a server that are pages. A [`PageText`] adds to the text of the bus the words
+//! to the [`Clients`] of a server that are pages, as they are [`Shown`]. A [`PageText`] adds to the text of the bus the words
 //! of each message.
 //!
 //! ```ignore
 //! let mut updates = Updates::new();
-//! updates.send_all(&mut clients, roster, server.world(), server.railway());
+//! let (world, railway) = (server.world(), server.railway());
+//! updates.send_all(&mut clients, &Shown { roster, world, railway });
 //! let taken = text.push(bytes);
 //! text.consume(write(stream, text.queued()));
 //! ```
@@ -20,9 +21,11 @@
 mod clients;
 mod items;
 mod page_text;
+mod shown;
 mod updates;
 mod words;
 
 pub use clients::Clients;
 pub use page_text::{PageText, words_follow_messages};
+pub use shown::Shown;
 pub use updates::Updates;

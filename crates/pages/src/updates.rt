@@ -1,16 +1,13 @@
 //! What pages have received of the decoders, the plan and its trains.
-ghost use Rattle.std.specs.Prelude.{◌≡◌, ◌<◌, None, get_or, length, map, option_copied, replicate};
-ghost use Rattle.layout_core.specs.Nodes.{spec_of};
-ghost use Rattle.roster.specs.Decoders.{entries_of, specs_of};
-ghost use Rattle.pages.specs.Items.{item_messages, item_states, max_items};
+ghost use Rattle.std.specs.Prelude.{◌≡◌, ◌<◌, None, get_or, length, map, replicate};
+ghost use Rattle.pages.specs.Items.{max_items};
+ghost use Rattle.pages.specs.Shown.{IsOfRoster, messages_of, states_of};
 ghost use Rattle.pages.specs.Updates.{SendsUnsent, ServesPage, ServesPages, is_last, known_sent, nothing_sent};
 
 use crate::clients::Clients;
 use crate::items::{ItemState, MAX_ITEMS, item_message, item_state, items};
+use crate::shown::Shown;
 use bus::MAX_CLIENTS;
-use layout_core::World;
-use railway::Railway;
-use roster::Roster;
 
 /// What the page of each client, 0 to 7, has received. Sends it the rest.
 #[derive(Clone, Copy)]
@@ -32,42 +29,26 @@ impl Updates {
     /// Sends each page, until it would block, the messages of the decoders, in the roster's order,
     /// and of the blocks, joints, turnouts and trains, in the plan's order, whose present states it
     /// has not received.
-    pub fn send_all<C: Clients>(
-        &mut self,
-        clients: &mut C,
-        roster: Option<&Roster>,
-        world: &World,
-        railway: Option<&Railway>,
-    )
-        requires { map spec_of world.now.nodes ≡ specs_of (entries_of roster) }
-        ensures pages { ServesPages 0
-            (item_messages (entries_of roster.entry) world.now.nodes (option_copied railway.entry))
-            (item_states world.now.nodes (option_copied railway.entry))
+    pub fn send_all<C: Clients>(&mut self, clients: &mut C, shown: &Shown<'_>)
+        requires { IsOfRoster shown.now }
+        ensures pages { ServesPages 0 (messages_of shown.now) (states_of shown.now)
             (map (λ states. states.sent) self.old.pages)
             (map (λ states. states.sent) self.new.pages)
             (C.page_log clients.old) (C.page_log clients.new) }
     {
-        serve_all(&mut self.pages, clients, roster, world, railway);
+        serve_all(&mut self.pages, clients, shown);
     }
 }
 
 /// Serves each client in turn.
-fn serve_all<C: Clients>(
-    pages: &mut [SentStates; MAX_CLIENTS],
-    clients: &mut C,
-    roster: Option<&Roster>,
-    world: &World,
-    railway: Option<&Railway>,
-)
-    requires { map spec_of world.now.nodes ≡ specs_of (entries_of roster) }
-    ensures { ServesPages 0
-        (item_messages (entries_of roster.entry) world.now.nodes (option_copied railway.entry))
-        (item_states world.now.nodes (option_copied railway.entry))
+fn serve_all<C: Clients>(pages: &mut [SentStates; MAX_CLIENTS], clients: &mut C, shown: &Shown<'_>)
+    requires { IsOfRoster shown.now }
+    ensures { ServesPages 0 (messages_of shown.now) (states_of shown.now)
         (map (λ states. states.sent) pages.old) (map (λ states. states.sent) pages.new)
         (C.page_log clients.old) (C.page_log clients.new) }
 {
     for client in 0..MAX_CLIENTS {
-        pages[client].serve(clients, client, roster, world, railway);
+        pages[client].serve(clients, client, shown);
     }
 }
 
@@ -90,26 +71,16 @@ impl SentStates {
     }
 
     /// Sends a client what it has not received, if it is a page that accepts messages.
-    fn serve<C: Clients>(
-        &mut self,
-        clients: &mut C,
-        client: usize,
-        roster: Option<&Roster>,
-        world: &World,
-        railway: Option<&Railway>,
-    )
+    fn serve<C: Clients>(&mut self, clients: &mut C, client: usize, shown: &Shown<'_>)
         requires client { client < 8 }
-        requires decoders { map spec_of world.now.nodes ≡ specs_of (entries_of roster) }
-        ensures { ServesPage client
-            (item_messages (entries_of roster.entry) world.now.nodes (option_copied railway.entry))
-            (item_states world.now.nodes (option_copied railway.entry))
-            self.old.sent self.new.sent (C.page_log clients.old)
-            (C.page_log clients.new) }
+        requires decoders { IsOfRoster shown.now }
+        ensures { ServesPage client (messages_of shown.now) (states_of shown.now) self.old.sent
+            self.new.sent (C.page_log clients.old) (C.page_log clients.new) }
     {
         let is_new = clients.take_just_opened(client);
         self.reset_if(is_new);
         if clients.is_writable(client) {
-            self.send(clients, client, roster, world, railway);
+            self.send(clients, client, shown);
         }
     }
 
@@ -124,30 +95,20 @@ impl SentStates {
 
     /// Sends a page the message of each item whose present state it has not received, in order,
     /// until it would block.
-    fn send<C: Clients>(
-        &mut self,
-        clients: &mut C,
-        client: usize,
-        roster: Option<&Roster>,
-        world: &World,
-        railway: Option<&Railway>,
-    )
+    fn send<C: Clients>(&mut self, clients: &mut C, client: usize, shown: &Shown<'_>)
         requires client { client < 8 }
-        requires decoders { map spec_of world.now.nodes ≡ specs_of (entries_of roster) }
-        ensures { SendsUnsent client
-            (item_messages (entries_of roster.entry) world.now.nodes (option_copied railway.entry))
-            (item_states world.now.nodes (option_copied railway.entry))
-            self.old.sent self.new.sent (C.page_log clients.old)
-            (C.page_log clients.new) }
+        requires decoders { IsOfRoster shown.now }
+        ensures { SendsUnsent client (messages_of shown.now) (states_of shown.now) self.old.sent
+            self.new.sent (C.page_log clients.old) (C.page_log clients.new) }
     {
-        for item in 0..items(world, railway) {
-            let Some(now) = item_state(world, railway, item) else {
+        for item in 0..items(shown.world, shown.railway) {
+            let Some(now) = item_state(shown.world, shown.railway, item) else {
                 return;
             };
             if self.is_sent(item, &now) {
                 continue;
             }
-            let message = item_message(roster, world, railway, item);
+            let message = item_message(shown.roster, shown.world, shown.railway, item);
             if !clients.send(client, message.as_str()) {
                 return;
             }

@@ -1,7 +1,6 @@
 //! The sockets of a server, and the clock that measures their deadlines.
-ghost use Rattle.std.specs.Prelude.{◌≡◌, IfOk, Some, [], map};
-ghost use Rattle.layout_core.specs.Nodes.{spec_of};
-ghost use Rattle.roster.specs.Decoders.{entries_of, specs_of};
+ghost use Rattle.std.specs.Prelude.{◌≡◌, IfOk, Some, []};
+ghost use Rattle.pages.specs.Shown.{IsOfRoster};
 
 use crate::call_log::{CallLog, Returned};
 use crate::connections::Connections;
@@ -9,12 +8,9 @@ use crate::http_server::HttpServer;
 use crate::stopwatch::Stopwatch;
 use crate::system_fault::SystemFault;
 use bus_server::{IoOutcome, Transport};
-use layout_core::World;
 use mio::Poll;
 use mio::net::TcpListener;
-use pages::Updates;
-use railway::Railway;
-use roster::Roster;
+use pages::{Shown, Updates};
 use std::alloc::AllocGlobal;
 use std::io;
 use std::net::{Net, SocketAddr};
@@ -124,17 +120,11 @@ impl<C: Clock> Sockets<'_, C> {
     }
 
     /// Sends the pages what they lack of the decoders, the plan and its trains.
-    pub fn update_pages(
-        &mut self,
-        updates: &mut Updates,
-        roster: Option<&Roster>,
-        world: &World,
-        railway: Option<&Railway>,
-    )
-        requires { map spec_of world.now.nodes ≡ specs_of (entries_of roster) }
+    pub fn update_pages(&mut self, updates: &mut Updates, shown: &Shown<'_>)
+        requires { IsOfRoster shown.now }
         ensures { self.new.log ≡ self.old.log }
     {
-        updates.send_all(&mut self.connections, roster, world, railway);
+        updates.send_all(&mut self.connections, shown);
     }
 
     /// Closes all connections and the ports, and returns the log.

@@ -1,23 +1,22 @@
-use Rattle.std.proofs.Common.{◌≡◌, ◌<◌, ◌∙◌, List, Option, arith, get_or, length, length-set, map, option_copied, set, subst, sym}
+use Rattle.std.proofs.Common.{◌≡◌, ◌<◌, ◌∙◌, List, Option, arith, get_or, length, length-set, map, set, subst, sym}
 use Rattle.std.proofs.lemmas.List.{get_or-map, length-map, map-set}
 use Rattle.pages.specs.declared.items.ItemState.{ItemState}
 use Rattle.pages.specs.declared.updates.SentStates.{SentStates}
-use Rattle.roster.specs.Decoders.{entries_of}
-use Rattle.pages.specs.Items.{item_messages, item_states}
 use Rattle.pages.specs.Updates.{ServesPage}
+use Rattle.pages.specs.Shown.{messages_of, states_of}
 use Rattle.pages.proofs.Sending.{pages-all, pages-more, pages-none}
 use Rattle.pages.proofs.updates.serve_all.Goals as goal
 
 pub loop-client-init : goal.loop-client-init
 loop-client-init g c =
-    let messages = item_messages (entries_of c.args.roster) c.args.world.now.nodes (option_copied c.args.railway) in
-    let items = item_states c.args.world.now.nodes (option_copied c.args.railway) in
+    let messages = messages_of c.args.shown.now in
+    let items = states_of c.args.shown.now in
     (c.told-pages, pages-all messages items (map (λ states. states.sent) c.args.pages.now) (g.C.Clients.page_log c.args.clients.now))
 
 pub loop-client-preserved : goal.loop-client-preserved
 loop-client-preserved g c =
-    let messages = item_messages (entries_of c.args.roster) c.args.world.now.nodes (option_copied c.args.railway) in
-    let items = item_states c.args.world.now.nodes (option_copied c.args.railway) in
+    let messages = messages_of c.args.shown.now in
+    let items = states_of c.args.shown.now in
     let i = c.loop-client.client in
     let states : List SentStates = c.loop-client.pages in
     let sent : List (Option ItemState) = c.index-pages-client.result.sent in
@@ -37,8 +36,8 @@ loop-client-preserved g c =
 
 pub returns : goal.returns
 returns g c =
-    let messages = item_messages (entries_of c.args.roster) c.args.world.now.nodes (option_copied c.args.railway) in
-    let items = item_states c.args.world.now.nodes (option_copied c.args.railway) in
+    let messages = messages_of c.args.shown.now in
+    let items = states_of c.args.shown.now in
     pages-none messages items (map (λ states. states.sent) c.args.pages.now) (g.C.Clients.page_log c.args.clients.now)
     (map (λ states. states.sent) c.loop-client.pages) (g.C.Clients.page_log c.loop-client.clients) c.loop-client.client
     (omega (arith, c.loop-client-test.false, c.loop-client.invariant.0, length-map c.loop-client.pages (λ states. states.sent))) c.loop-client.invariant.1
