@@ -1,7 +1,7 @@
 -- A station neither obeys nor answers these operations.
 use Rattle.std.proofs.Common.{◌≡◌, ℕ, true, None, refl}
 use Rattle.ln_ops.specs.declared.op.Op.{Op}
-use Rattle.ln_ops.specs.declared.op.Op.TheVariants.{PowerOff, PowerOn, ForceIdle, Speed, Dirf, Snd, SwReq, SwAck, LongAck, SlotStat, Move, SlotRead, LocoAddr, SlotData, SlotWrite, Imm, Other}
+use Rattle.ln_ops.specs.declared.op.Op.TheVariants.{LongAck, SlotData, Other}
 use Rattle.station_core.specs.After.{after}
 use Rattle.station_core.specs.Answer.{answer}
 use Rattle.station_core.specs.Powered.{PoweredDesk}

@@ -103,22 +103,15 @@ fn print_blocks(log: &mut LogQueue, change: &Change<'_>)
     ensures { log.new ≡ after_lines log.old (all_blocks change.now) }
 {
     for i in 0..change.blocks.len() {
-        print_block(log, change, i);
-    }
-}
-
-/// Prints a block, if it became occupied or free.
-fn print_block(log: &mut LogQueue, change: &Change<'_>, i: usize)
-    ensures { log.new ≡ after_lines log.old (block_changes change.now i) }
-{
-    let name = block_name(change.blocks, i);
-    match (first_in(i, change.before), first_in(i, change.after)) {
-        (None, Some(first)) => {
-            let train = train_name(change.roster, change.after, first);
-            log.print_line(&occupied_line(name, train));
+        let name = block_name(change.blocks, i);
+        match (first_in(i, change.before), first_in(i, change.after)) {
+            (None, Some(first)) => {
+                let train = train_name(change.roster, change.after, first);
+                log.print_line(&occupied_line(name, train));
+            }
+            (Some(_), None) => log.print_line(&free_line(name)),
+            _ => {}
         }
-        (Some(_), None) => log.print_line(&free_line(name)),
-        _ => {}
     }
 }
 
@@ -139,20 +132,10 @@ fn print_derailed(log: &mut LogQueue, change: &Change<'_>)
     ensures { log.new ≡ after_lines log.old (all_trains change.now) }
 {
     for i in 0..change.after.len() {
-        print_train(log, change, i);
-    }
-}
-
-/// Prints a train, if it derailed.
-fn print_train(log: &mut LogQueue, change: &Change<'_>, i: usize)
-    ensures { log.new ≡ after_lines log.old (train_changes change.now i) }
-{
-    match (derailed_at(change.before, i), derailed_at(change.after, i)) {
-        (None, Some(turnout)) => {
-            let train = train_name(change.roster, change.after, i);
-            print_derailment(log, train, turnout);
+        let places = (derailed_at(change.before, i), derailed_at(change.after, i));
+        if let (None, Some(turnout)) = places {
+            print_derailment(log, train_name(change.roster, change.after, i), turnout);
         }
-        _ => {}
     }
 }
 
