@@ -1,5 +1,4 @@
 //! The drawing program: a picture of turns and of the states of decoders.
-ghost use Rattle.std.specs.Prelude.{true};
 ghost use Rattle.timeline.specs.Picture.{picture_of};
 ghost use Rattle.timeline.specs.Run.{Shows};
 
@@ -21,8 +20,6 @@ impl Drawing for Timeline {
     ghost parses = { Shows };
 
     ghost drawn = { picture_of };
-
-    ghost is_whole = { true };
 
     fn text(&self) -> FilterText<'static> {
         FilterText {

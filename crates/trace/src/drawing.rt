@@ -24,7 +24,7 @@ pub trait Drawing {
     ghost drawn: { List Self.Item → List ℕ };
 
     /// Whether nothing is written if out of memory.
-    ghost is_whole: { Bool };
+    ghost is_whole: { Bool } = { true };
 
     /// The texts of the program's command line. Its fault lines begin with the name.
     fn text(&self) -> FilterText<'static>;
