@@ -5,7 +5,7 @@ ghost use Rattle.toml.specs.View.{items_view, view};
 ghost use Rattle.roster.specs.Entry.{name_of};
 ghost use Rattle.railway_plan.specs.declared.fault.Section.{Section as SectionOf};
 ghost use Rattle.railway_plan.specs.declared.fault.Section.TheVariants as section;
-ghost use Rattle.railway_plan.specs.declared.fault.Reason.{Reason as WhyOf};
+ghost use Rattle.railway_plan.specs.declared.fault.Reason.{Reason as ReasonOf};
 ghost use Rattle.railway_plan.specs.Format.{joint_in, part_of, parts_after, train_in, turnout_in};
 ghost use Rattle.railway_plan.specs.Entries.{names_of};
 
@@ -19,12 +19,13 @@ use toml::Value;
 /// A member of an array, which may name decoders of a roster and blocks of the plan.
 pub(crate) trait Member: Default + Drop {
     /// What a table says, given the names of the decoders and of the blocks.
-    ghost said: { List (List ℕ) → List (List ℕ) → Members → Result Self WhyOf };
+    ghost said: { List (List ℕ) → List (List ℕ) → Members → Result Self ReasonOf };
 
     /// The place of the member of this number.
     ghost place: { ℕ → SectionOf };
 
-    /// Returns the member that a value says.
+    /// Returns the member that a value says, with the names of the roster's decoders and of the
+    /// plan's blocks: what its table says, or `NotTable` if it is none.
     fn read(roster: &Roster, blocks: &[Block], value: &Value) -> Result<Self, Reason>
         requires { length blocks.now ≤ 64 }
         ensures { result
