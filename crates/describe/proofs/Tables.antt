@@ -1,11 +1,12 @@
 -- The explanation of a table does not depend on where its texts are in memory.
-use Rattle.std.proofs.Common.{◌≡◌, ℕ, zero, suc, ◌++◌, Bool, true, false, List, [], ◌∷◌, map, if◌then◌else◌, refl, ap, ap₂, sym, ◌∙◌}
+use Rattle.std.proofs.Common.{◌≡◌, ℕ, zero, suc, ◌++◌, ◌%◌, Bool, true, false, List, [], ◌∷◌, map, if◌then◌else◌, refl, ap, ap₂, sym, ◌∙◌}
 use Rattle.std.specs.Borrow.{Bor}
+use Rattle.std.specs.Fmt.{decimal}
 use Rattle.describe.specs.declared.fields.Field.{Field}
 use Rattle.describe.specs.declared.rows.Part.{Part}
 use Rattle.describe.specs.declared.rows.Part.TheVariants.{Text, Number, Hex, Choice, On}
 use Rattle.describe.specs.Fields.{value_of}
-use Rattle.describe.specs.Pieces.{states_words}
+use Rattle.describe.specs.Pieces.{hex_pair, states_words}
 use Rattle.describe.specs.Rows.{Phrase, Row, applies, choice_text, made_text, parts_of, parts_text, row_text}
 
 -- a part and its texts, and a row, without the addresses of the texts
@@ -48,8 +49,8 @@ same_choice (text ∷ texts) (suc n) = same_choice texts n
 
 same_made : (bytes : List ℕ) (part : Part) (texts : List (Bor (List ℕ))) → made_text bytes part texts ≡ made_text bytes part (placed_texts (plain_texts texts))
 same_made bytes Text texts = same_choice texts 0
-same_made bytes (Number field) texts = refl
-same_made bytes (Hex field) texts = refl
+same_made bytes (Number field) texts = ap (λ label. label ++ decimal (value_of field bytes)) (same_choice texts 0)
+same_made bytes (Hex field) texts = ap (λ label. label ++ hex_pair (value_of field bytes % 256)) (same_choice texts 0)
 same_made bytes (Choice field) texts = same_choice texts _
 same_made bytes (On first field) texts = ap (λ label. label ++ states_words first (value_of field bytes)) (same_choice texts 0)
 

@@ -1,7 +1,7 @@
 -- Fields in the bytes of a message or a packet. Positions count from 0.
 use Rattle.std.specs.Prelude.{ℕ, ◌+◌, ◌-◌, ◌*◌, ◌/◌, ◌%◌, ◌^◌, nat_lt, if◌then◌else◌, List, length, slice_index}
 use Rattle.describe.specs.declared.fields.Field.{Field}
-use Rattle.describe.specs.declared.fields.Field.TheVariants.{Length, Byte, Bit, Top, LowTwo, LowThree, LowFour, LowFive, LowSeven, Acknowledged, Switch, Sensor, LightAndFour, PeerDestination, PeerByte, ClockHour, ClockMinute, Task, TaskVariable, TaskValue, TaskAddress, Variable, Step, BinaryState, Decoder, Output}
+use Rattle.describe.specs.declared.fields.Field.TheVariants.{Length, Byte, Bit, Top, LowTwo, LowThree, LowFour, LowFive, LowSeven, Acknowledged, Switch, Sensor, LightAndFour, PeerDestination, PeerByte, ClockHour, ClockMinute, Task, MainTask, TaskVariable, TaskValue, TaskAddress, Variable, Step, BinaryState, Decoder, Output}
 
 -- the bits of a byte from this one on
 abbrev pub top_of : ℕ → ℕ → ℕ
@@ -52,6 +52,7 @@ slot_value ClockHour m = clock_of (slice_index m 8)
 slot_value ClockMinute m = clock_of (slice_index m 6)
 -- from bit 2 on: operations mode, TY0, TY1, byte mode
 slot_value Task m = slice_index m 3 / 4 % 16
+slot_value MainTask m = slice_index m 3 / 8 % 2 + 2 * (slice_index m 3 / 32 % 2)
 -- CVH is 0 0 CV9 CV8 0 0 D7 CV7, CVL is CV6 to CV0
 slot_value TaskVariable m = slice_index m 8 / 16 % 4 * 256 + slice_index m 8 % 2 * 128 + slice_index m 9 + 1
 slot_value TaskValue m = slice_index m 8 / 2 % 2 * 128 + slice_index m 10

@@ -27,12 +27,12 @@ Phrase = Part × Bor (List (Bor (List ℕ)))
 abbrev pub Row : Type 0
 Row = Bor (List (Field × ℕ)) × Bor (List Phrase)
 
--- a part: its text, a field in decimal or hexadecimal digits, a text that a field selects, or its
--- text and the functions that are on
+-- a part: its text, with a field in decimal or hexadecimal digits or the functions that are on; or a
+-- text that a field selects
 abbrev pub made_text : List ℕ → Part → List (Bor (List ℕ)) → List ℕ
 made_text bytes Text texts = choice_text texts 0
-made_text bytes (Number field) texts = decimal (value_of field bytes)
-made_text bytes (Hex field) texts = hex_pair (value_of field bytes % 256)
+made_text bytes (Number field) texts = choice_text texts 0 ++ decimal (value_of field bytes)
+made_text bytes (Hex field) texts = choice_text texts 0 ++ hex_pair (value_of field bytes % 256)
 made_text bytes (Choice field) texts = choice_text texts (value_of field bytes)
 made_text bytes (On first field) texts = choice_text texts 0 ++ states_words first (value_of field bytes)
 
@@ -64,8 +64,8 @@ longest (text ∷ texts) = max (length text.now) (longest texts)
 -- the greatest length of a part
 abbrev pub made_most : Part → List (Bor (List ℕ)) → ℕ
 made_most Text texts = longest texts
-made_most (Number field) texts = 5
-made_most (Hex field) texts = 2
+made_most (Number field) texts = longest texts + 5
+made_most (Hex field) texts = longest texts + 2
 made_most (Choice field) texts = longest texts
 made_most (On first field) texts = longest texts + 59
 

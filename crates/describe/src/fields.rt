@@ -42,6 +42,8 @@ pub(crate) enum Field {
     ClockMinute,
     /// The operation of the programmer, bits 2 to 5 of PCMD.
     Task,
+    /// Of a task on the main track: bit 0 is 1 with feedback, and bit 1 for a whole byte.
+    MainTask,
     /// The number of the variable that the programmer reads or writes, counted from 1.
     TaskVariable,
     /// The variable's value.
@@ -147,6 +149,7 @@ fn slot_value(field: Field, bytes: &[u8]) -> u16
         Field::ClockHour => clock_of(byte(bytes, 8)),
         Field::ClockMinute => clock_of(byte(bytes, 6)),
         Field::Task => u16::from(byte(bytes, 3) / 4 % 16),
+        Field::MainTask => u16::from(byte(bytes, 3) / 8 % 2 + 2 * (byte(bytes, 3) / 32 % 2)),
         Field::TaskVariable => {
             let high = byte(bytes, 8);
             u16::from(high / 16 % 4) * 256

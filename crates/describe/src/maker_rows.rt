@@ -9,8 +9,7 @@ pub(crate) const MAKER_MESSAGES: [Row; 14] = [
     (
         &[(Byte(0), 0xA3)],
         &[
-            (Text, &["slot "]),
-            (Number(Byte(1)), &[]),
+            (Number(Byte(1)), &["slot "]),
             (On(9, LowFour(2)), &[": F9 to F12:"]),
         ],
     ),
@@ -31,24 +30,21 @@ pub(crate) const MAKER_MESSAGES: [Row; 14] = [
     (
         &[(Byte(0), 0xD4), (Byte(1), 0x20), (Byte(3), 8)],
         &[
-            (Text, &["slot "]),
-            (Number(Byte(2)), &[]),
+            (Number(Byte(2)), &["slot "]),
             (On(13, LowSeven(4)), &[": F13 to F19:"]),
         ],
     ),
     (
         &[(Byte(0), 0xD4), (Byte(1), 0x20), (Byte(3), 9)],
         &[
-            (Text, &["slot "]),
-            (Number(Byte(2)), &[]),
+            (Number(Byte(2)), &["slot "]),
             (On(21, LowSeven(4)), &[": F21 to F27:"]),
         ],
     ),
     (
         &[(Byte(0), 0xD4), (Byte(1), 0x20), (Byte(3), 5)],
         &[
-            (Text, &["slot "]),
-            (Number(Byte(2)), &[]),
+            (Number(Byte(2)), &["slot "]),
             (Choice(Bit(4, 4)), &[": F12 off", ": F12 on"]),
             (Choice(Bit(4, 5)), &[", F20 off", ", F20 on"]),
             (Choice(Bit(4, 6)), &[", F28 off", ", F28 on"]),
@@ -57,8 +53,7 @@ pub(crate) const MAKER_MESSAGES: [Row; 14] = [
     (
         &[(Byte(0), 0xD4), (Byte(1), 0x20)],
         &[
-            (Text, &["slot "]),
-            (Number(Byte(2)), &[]),
+            (Number(Byte(2)), &["slot "]),
             (Text, &[": functions of another group"]),
         ],
     ),
@@ -92,5 +87,5 @@ pub(crate) const MAKER_MESSAGES: [Row; 14] = [
         &[(Byte(0), 0xE5)],
         &[(Text, &["peer transfer of another length"])],
     ),
-    (&[], &[(Text, &["unknown opcode "]), (Hex(Byte(0)), &[])]),
+    (&[], &[(Hex(Byte(0)), &["unknown opcode "])]),
 ];

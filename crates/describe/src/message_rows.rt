@@ -1,8 +1,8 @@
 //! Explanations of messages that the station ignores, or that hold more than their operation
 //! (LocoNet Personal Use Edition 1.0).
 use crate::fields::Field::{
-    Acknowledged, Bit, Byte, ClockHour, ClockMinute, LightAndFour, LowFour, LowTwo, PeerByte,
-    PeerDestination, Sensor, Switch, Task, TaskAddress, TaskValue, TaskVariable,
+    Acknowledged, Bit, Byte, ClockHour, ClockMinute, LightAndFour, LowFour, LowTwo, MainTask,
+    PeerByte, PeerDestination, Sensor, Switch, Task, TaskAddress, TaskValue, TaskVariable,
 };
 use crate::rows::Part::{Choice, Hex, Number, On, Text};
 use crate::rows::Row;
@@ -27,6 +27,14 @@ const TASK_MODES: [&'static str; 16] = [
     ", unknown mode",
 ];
 
+/// The mode of one on the main track.
+const MAIN_MODES: [&'static str; 4] = [
+    ", bit on the main track",
+    ", bit on the main track, with feedback",
+    ", byte on the main track",
+    ", byte on the main track, with feedback",
+];
+
 /// The explanation of a whole message, by its bytes.
 pub(crate) const MESSAGES: [Row; 52] = [
     // OPC_BUSY
@@ -35,8 +43,7 @@ pub(crate) const MESSAGES: [Row; 52] = [
     (
         &[(Byte(0), 0xB1), (Bit(2, 6), 1)],
         &[
-            (Text, &["turnout "]),
-            (Number(Switch), &[]),
+            (Number(Switch), &["turnout "]),
             (Choice(Bit(2, 5)), &[": aux input ", ": switch input "]),
             (Choice(Bit(2, 4)), &["low", "high"]),
         ],
@@ -44,8 +51,7 @@ pub(crate) const MESSAGES: [Row; 52] = [
     (
         &[(Byte(0), 0xB1)],
         &[
-            (Text, &["turnout "]),
-            (Number(Switch), &[]),
+            (Number(Switch), &["turnout "]),
             (
                 Choice(Bit(2, 5)),
                 &[": closed output off", ": closed output on"],
@@ -60,8 +66,7 @@ pub(crate) const MESSAGES: [Row; 52] = [
     (
         &[(Byte(0), 0xB2)],
         &[
-            (Text, &["sensor "]),
-            (Number(Sensor), &[]),
+            (Number(Sensor), &["sensor "]),
             (Choice(Bit(2, 4)), &[" low", " high"]),
         ],
     ),
@@ -149,35 +154,24 @@ pub(crate) const MESSAGES: [Row; 52] = [
     ),
     (
         &[(Byte(0), 0xB4), (Byte(2), 0)],
-        &[
-            (Text, &["message "]),
-            (Hex(Acknowledged), &[]),
-            (Text, &[" refused"]),
-        ],
+        &[(Hex(Acknowledged), &["message "]), (Text, &[" refused"])],
     ),
     (
         &[(Byte(0), 0xB4), (Byte(2), 0x7F)],
-        &[
-            (Text, &["message "]),
-            (Hex(Acknowledged), &[]),
-            (Text, &[" accepted"]),
-        ],
+        &[(Hex(Acknowledged), &["message "]), (Text, &[" accepted"])],
     ),
     (
         &[(Byte(0), 0xB4)],
         &[
-            (Text, &["message "]),
-            (Hex(Acknowledged), &[]),
-            (Text, &[" answered with "]),
-            (Number(Byte(2)), &[]),
+            (Hex(Acknowledged), &["message "]),
+            (Number(Byte(2)), &[" answered with "]),
         ],
     ),
     // OPC_CONSIST_FUNC
     (
         &[(Byte(0), 0xB6)],
         &[
-            (Text, &["slot "]),
-            (Number(Byte(1)), &[]),
+            (Number(Byte(1)), &["slot "]),
             (On(0, LightAndFour(2)), &[", in a consist: F0 to F4:"]),
         ],
     ),
@@ -185,53 +179,36 @@ pub(crate) const MESSAGES: [Row; 52] = [
     (
         &[(Byte(0), 0xB8)],
         &[
-            (Text, &["unlink slot "]),
-            (Number(Byte(1)), &[]),
-            (Text, &[" from slot "]),
-            (Number(Byte(2)), &[]),
+            (Number(Byte(1)), &["unlink slot "]),
+            (Number(Byte(2)), &[" from slot "]),
         ],
     ),
     (
         &[(Byte(0), 0xB9)],
         &[
-            (Text, &["link slot "]),
-            (Number(Byte(1)), &[]),
-            (Text, &[" to slot "]),
-            (Number(Byte(2)), &[]),
+            (Number(Byte(1)), &["link slot "]),
+            (Number(Byte(2)), &[" to slot "]),
         ],
     ),
     // OPC_SW_STATE
     (
         &[(Byte(0), 0xBC)],
-        &[
-            (Text, &["ask for the state of turnout "]),
-            (Number(Switch), &[]),
-        ],
+        &[(Number(Switch), &["ask for the state of turnout "])],
     ),
     // OPC_PEER_XFER
     (
         &[(Byte(0), 0xE5), (Byte(1), 0x10)],
         &[
-            (Text, &["from "]),
-            (Number(Byte(2)), &[]),
-            (Text, &[" to "]),
-            (Number(PeerDestination), &[]),
-            (Text, &[": "]),
-            (Hex(PeerByte(0)), &[]),
-            (Text, &[" "]),
-            (Hex(PeerByte(1)), &[]),
-            (Text, &[" "]),
-            (Hex(PeerByte(2)), &[]),
-            (Text, &[" "]),
-            (Hex(PeerByte(3)), &[]),
-            (Text, &[" "]),
-            (Hex(PeerByte(4)), &[]),
-            (Text, &[" "]),
-            (Hex(PeerByte(5)), &[]),
-            (Text, &[" "]),
-            (Hex(PeerByte(6)), &[]),
-            (Text, &[" "]),
-            (Hex(PeerByte(7)), &[]),
+            (Number(Byte(2)), &["from "]),
+            (Number(PeerDestination), &[" to "]),
+            (Hex(PeerByte(0)), &[": "]),
+            (Hex(PeerByte(1)), &[" "]),
+            (Hex(PeerByte(2)), &[" "]),
+            (Hex(PeerByte(3)), &[" "]),
+            (Hex(PeerByte(4)), &[" "]),
+            (Hex(PeerByte(5)), &[" "]),
+            (Hex(PeerByte(6)), &[" "]),
+            (Hex(PeerByte(7)), &[" "]),
         ],
     ),
     (
@@ -266,28 +243,20 @@ pub(crate) const MESSAGES: [Row; 52] = [
     (
         &[(Byte(0), 0xE7), (Byte(1), 0x0E), (Byte(2), 0x7B)],
         &[
-            (Text, &["fast clock: day "]),
-            (Number(Byte(9)), &[]),
-            (Text, &[", hour "]),
-            (Number(ClockHour), &[]),
-            (Text, &[", minute "]),
-            (Number(ClockMinute), &[]),
-            (Text, &[", rate "]),
-            (Number(Byte(3)), &[]),
+            (Number(Byte(9)), &["fast clock: day "]),
+            (Number(ClockHour), &[", hour "]),
+            (Number(ClockMinute), &[", minute "]),
+            (Number(Byte(3)), &[", rate "]),
             (Choice(Byte(3)), &[" (stopped)"]),
         ],
     ),
     (
         &[(Byte(0), 0xEF), (Byte(1), 0x0E), (Byte(2), 0x7B)],
         &[
-            (Text, &["set the fast clock: day "]),
-            (Number(Byte(9)), &[]),
-            (Text, &[", hour "]),
-            (Number(ClockHour), &[]),
-            (Text, &[", minute "]),
-            (Number(ClockMinute), &[]),
-            (Text, &[", rate "]),
-            (Number(Byte(3)), &[]),
+            (Number(Byte(9)), &["set the fast clock: day "]),
+            (Number(ClockHour), &[", hour "]),
+            (Number(ClockMinute), &[", minute "]),
+            (Number(Byte(3)), &[", rate "]),
             (Choice(Byte(3)), &[" (stopped)"]),
         ],
     ),
@@ -310,15 +279,10 @@ pub(crate) const MESSAGES: [Row; 52] = [
             (Bit(3, 6), 1),
         ],
         &[
-            (Text, &["programmer: write "]),
-            (Number(TaskValue), &[]),
-            (Text, &[" to CV "]),
-            (Number(TaskVariable), &[]),
-            (Text, &[" of locomotive "]),
-            (Number(TaskAddress), &[]),
-            (Choice(Bit(3, 5)), &[", bit", ", byte"]),
-            (Text, &[" on the main track"]),
-            (Choice(Bit(3, 3)), &["", ", with feedback"]),
+            (Number(TaskValue), &["programmer: write "]),
+            (Number(TaskVariable), &[" to CV "]),
+            (Number(TaskAddress), &[" of locomotive "]),
+            (Choice(MainTask), &MAIN_MODES),
         ],
     ),
     (
@@ -329,13 +293,9 @@ pub(crate) const MESSAGES: [Row; 52] = [
             (Bit(3, 2), 1),
         ],
         &[
-            (Text, &["programmer: read CV "]),
-            (Number(TaskVariable), &[]),
-            (Text, &[" of locomotive "]),
-            (Number(TaskAddress), &[]),
-            (Choice(Bit(3, 5)), &[", bit", ", byte"]),
-            (Text, &[" on the main track"]),
-            (Choice(Bit(3, 3)), &["", ", with feedback"]),
+            (Number(TaskVariable), &["programmer: read CV "]),
+            (Number(TaskAddress), &[" of locomotive "]),
+            (Choice(MainTask), &MAIN_MODES),
         ],
     ),
     (
@@ -346,18 +306,15 @@ pub(crate) const MESSAGES: [Row; 52] = [
             (Bit(3, 6), 1),
         ],
         &[
-            (Text, &["programmer: write "]),
-            (Number(TaskValue), &[]),
-            (Text, &[" to CV "]),
-            (Number(TaskVariable), &[]),
+            (Number(TaskValue), &["programmer: write "]),
+            (Number(TaskVariable), &[" to CV "]),
             (Choice(Task), &TASK_MODES),
         ],
     ),
     (
         &[(Byte(0), 0xEF), (Byte(1), 0x0E), (Byte(2), 0x7C)],
         &[
-            (Text, &["programmer: read CV "]),
-            (Number(TaskVariable), &[]),
+            (Number(TaskVariable), &["programmer: read CV "]),
             (Choice(Task), &TASK_MODES),
         ],
     ),
@@ -375,15 +332,13 @@ pub(crate) const MESSAGES: [Row; 52] = [
                 &["programmer: read CV ", "programmer: wrote CV "],
             ),
             (Number(TaskVariable), &[]),
-            (Text, &[", value "]),
-            (Number(TaskValue), &[]),
+            (Number(TaskValue), &[", value "]),
         ],
     ),
     (
         &[(Byte(0), 0xE7), (Byte(1), 0x0E), (Byte(2), 0x7C)],
         &[
-            (Text, &["programmer: CV "]),
-            (Number(TaskVariable), &[]),
+            (Number(TaskVariable), &["programmer: CV "]),
             (Choice(Bit(3, 6)), &[" not read", " not written"]),
             (Choice(Bit(4, 0)), &["", ", programming track empty"]),
             (Choice(Bit(4, 1)), &["", ", no answer to a write"]),
@@ -395,47 +350,32 @@ pub(crate) const MESSAGES: [Row; 52] = [
     (
         &[(Byte(0), 0xE7), (Byte(1), 0x0E), (Byte(2), 0x7F)],
         &[
-            (Text, &["options of the command station: "]),
-            (Hex(Byte(3)), &[]),
-            (Text, &[" "]),
-            (Hex(Byte(4)), &[]),
-            (Text, &[" "]),
-            (Hex(Byte(5)), &[]),
-            (Text, &[" "]),
-            (Hex(Byte(6)), &[]),
-            (Text, &[" "]),
-            (Hex(Byte(8)), &[]),
+            (Hex(Byte(3)), &["options of the command station: "]),
+            (Hex(Byte(4)), &[" "]),
+            (Hex(Byte(5)), &[" "]),
+            (Hex(Byte(6)), &[" "]),
+            (Hex(Byte(8)), &[" "]),
         ],
     ),
     (
         &[(Byte(0), 0xEF), (Byte(1), 0x0E), (Byte(2), 0x7F)],
         &[
-            (Text, &["set the options of the command station: "]),
-            (Hex(Byte(3)), &[]),
-            (Text, &[" "]),
-            (Hex(Byte(4)), &[]),
-            (Text, &[" "]),
-            (Hex(Byte(5)), &[]),
-            (Text, &[" "]),
-            (Hex(Byte(6)), &[]),
-            (Text, &[" "]),
-            (Hex(Byte(8)), &[]),
+            (Hex(Byte(3)), &["set the options of the command station: "]),
+            (Hex(Byte(4)), &[" "]),
+            (Hex(Byte(5)), &[" "]),
+            (Hex(Byte(6)), &[" "]),
+            (Hex(Byte(8)), &[" "]),
         ],
     ),
     // the other slots above 119
     (
         &[(Byte(0), 0xE7), (Byte(1), 0x0E)],
-        &[
-            (Text, &["slot "]),
-            (Number(Byte(2)), &[]),
-            (Text, &[", of the system"]),
-        ],
+        &[(Number(Byte(2)), &["slot "]), (Text, &[", of the system"])],
     ),
     (
         &[(Byte(0), 0xEF), (Byte(1), 0x0E)],
         &[
-            (Text, &["write slot "]),
-            (Number(Byte(2)), &[]),
+            (Number(Byte(2)), &["write slot "]),
             (Text, &[", of the system"]),
         ],
     ),
@@ -451,5 +391,5 @@ pub(crate) const MESSAGES: [Row; 52] = [
         &[(Byte(0), 0xED)],
         &[(Text, &["packet for the track, of another form"])],
     ),
-    (&[], &[(Text, &["unknown opcode "]), (Hex(Byte(0)), &[])]),
+    (&[], &[(Hex(Byte(0)), &["unknown opcode "])]),
 ];

@@ -32,8 +32,7 @@ pub(crate) const INSTRUCTIONS: [Row; 37] = [
     (
         &[(Length, 3), (Top(0, 1), 9), (Bit(1, 7), 0)],
         &[
-            (Text, &["join consist "]),
-            (Number(LowSeven(1)), &[]),
+            (Number(LowSeven(1)), &["join consist "]),
             (
                 Choice(Bit(0, 0)),
                 &[", normal direction", ", reversed direction"],
@@ -58,8 +57,7 @@ pub(crate) const INSTRUCTIONS: [Row; 37] = [
     (
         &[(Length, 3), (Byte(0), 0x3F)],
         &[
-            (Text, &["step "]),
-            (Number(Step(1)), &[]),
+            (Number(Step(1)), &["step "]),
             (Text, &[" of 128"]),
             (Choice(Bit(1, 7)), &[", reverse", ", forward"]),
         ],
@@ -67,10 +65,7 @@ pub(crate) const INSTRUCTIONS: [Row; 37] = [
     // 2.3.2, restricted speed step: 00111110
     (
         &[(Length, 3), (Byte(0), 0x3E), (Bit(1, 7), 0)],
-        &[
-            (Text, &["speed restricted, number "]),
-            (Number(LowSeven(1)), &[]),
-        ],
+        &[(Number(LowSeven(1)), &["speed restricted, number "])],
     ),
     (
         &[(Length, 3), (Byte(0), 0x3E)],
@@ -80,10 +75,8 @@ pub(crate) const INSTRUCTIONS: [Row; 37] = [
     (
         &[(Length, 4), (Byte(0), 0x3D)],
         &[
-            (Text, &["analog function "]),
-            (Number(Byte(1)), &[]),
-            (Text, &[" at "]),
-            (Number(Byte(2)), &[]),
+            (Number(Byte(1)), &["analog function "]),
+            (Number(Byte(2)), &[" at "]),
         ],
     ),
     // 2.3.3, speed and direction to all: 01DCSSSS; a locomotive's own and a stop are handled
@@ -91,8 +84,7 @@ pub(crate) const INSTRUCTIONS: [Row; 37] = [
     (
         &[(Length, 2), (Top(0, 6), 1)],
         &[
-            (Text, &["speed with 14 or 28 steps, number "]),
-            (Number(LowFour(0)), &[]),
+            (Number(LowFour(0)), &["speed with 14 or 28 steps, number "]),
             (Choice(Bit(0, 5)), &[", reverse", ", forward"]),
         ],
     ),
@@ -128,8 +120,7 @@ pub(crate) const INSTRUCTIONS: [Row; 37] = [
     (
         &[(Length, 3), (Byte(0), 0xDD)],
         &[
-            (Text, &["binary state "]),
-            (Number(LowSeven(1)), &[]),
+            (Number(LowSeven(1)), &["binary state "]),
             (Choice(Bit(1, 7)), &[" off", " on"]),
         ],
     ),
@@ -143,8 +134,7 @@ pub(crate) const INSTRUCTIONS: [Row; 37] = [
     (
         &[(Length, 4), (Byte(0), 0xC0)],
         &[
-            (Text, &["binary state "]),
-            (Number(BinaryState), &[]),
+            (Number(BinaryState), &["binary state "]),
             (Choice(Bit(1, 7)), &[" off", " on"]),
         ],
     ),
@@ -152,59 +142,41 @@ pub(crate) const INSTRUCTIONS: [Row; 37] = [
     (
         &[(Length, 4), (Top(0, 2), 57)],
         &[
-            (Text, &["verify that CV "]),
-            (Number(Variable(0)), &[]),
-            (Text, &[" is "]),
-            (Number(Byte(2)), &[]),
+            (Number(Variable(0)), &["verify that CV "]),
+            (Number(Byte(2)), &[" is "]),
         ],
     ),
     (
         &[(Length, 4), (Top(0, 2), 59)],
         &[
-            (Text, &["write "]),
-            (Number(Byte(2)), &[]),
-            (Text, &[" to CV "]),
-            (Number(Variable(0)), &[]),
+            (Number(Byte(2)), &["write "]),
+            (Number(Variable(0)), &[" to CV "]),
         ],
     ),
     (
         &[(Length, 4), (Top(0, 2), 58), (Top(2, 4), 14)],
         &[
-            (Text, &["verify that bit "]),
-            (Number(LowThree(2)), &[]),
-            (Text, &[" of CV "]),
-            (Number(Variable(0)), &[]),
-            (Text, &[" is "]),
-            (Number(Bit(2, 3)), &[]),
+            (Number(LowThree(2)), &["verify that bit "]),
+            (Number(Variable(0)), &[" of CV "]),
+            (Number(Bit(2, 3)), &[" is "]),
         ],
     ),
     (
         &[(Length, 4), (Top(0, 2), 58), (Top(2, 4), 15)],
         &[
-            (Text, &["write "]),
-            (Number(Bit(2, 3)), &[]),
-            (Text, &[" to bit "]),
-            (Number(LowThree(2)), &[]),
-            (Text, &[" of CV "]),
-            (Number(Variable(0)), &[]),
+            (Number(Bit(2, 3)), &["write "]),
+            (Number(LowThree(2)), &[" to bit "]),
+            (Number(Variable(0)), &[" of CV "]),
         ],
     ),
     // 2.3.7, short form: 1111CCCC DDDDDDDD
     (
         &[(Length, 3), (Byte(0), 0xF2)],
-        &[
-            (Text, &["write "]),
-            (Number(Byte(1)), &[]),
-            (Text, &[" to CV 23"]),
-        ],
+        &[(Number(Byte(1)), &["write "]), (Text, &[" to CV 23"])],
     ),
     (
         &[(Length, 3), (Byte(0), 0xF3)],
-        &[
-            (Text, &["write "]),
-            (Number(Byte(1)), &[]),
-            (Text, &[" to CV 24"]),
-        ],
+        &[(Number(Byte(1)), &["write "]), (Text, &[" to CV 24"])],
     ),
     // the rest, by the first bits
     (
@@ -235,22 +207,20 @@ pub(crate) const ACCESSORIES: [Row; 14] = [
     // 2.1: the first byte of an accessory decoder is 10AAAAAA
     (
         &[(Bit(0, 7), 1), (Bit(0, 6), 1)],
-        &[(Text, &["unknown form: address "]), (Number(Byte(0)), &[])],
+        &[(Number(Byte(0)), &["unknown form: address "])],
     ),
     // 2.4.1, basic: 10AAAAAA 1AAACDDD; decoders 1 to 510 are handled elsewhere
     (
         &[(Length, 3), (Bit(1, 7), 1), (Decoder, 511)],
         &[
-            (Text, &["all accessory decoders: output "]),
-            (Number(LowThree(1)), &[]),
+            (Number(LowThree(1)), &["all accessory decoders: output "]),
             (Choice(Bit(1, 3)), &[" off", " on"]),
         ],
     ),
     (
         &[(Length, 3), (Bit(1, 7), 1), (Decoder, 0)],
         &[
-            (Text, &["accessory decoder 0: output "]),
-            (Number(LowThree(1)), &[]),
+            (Number(LowThree(1)), &["accessory decoder 0: output "]),
             (Choice(Bit(1, 3)), &[" off", " on"]),
         ],
     ),
@@ -262,7 +232,7 @@ pub(crate) const ACCESSORIES: [Row; 14] = [
             (Byte(1), 0x07),
             (Top(2, 5), 0),
         ],
-        &[(Text, &["all signals: aspect "]), (Number(Byte(2)), &[])],
+        &[(Number(Byte(2)), &["all signals: aspect "])],
     ),
     (
         &[
@@ -273,10 +243,7 @@ pub(crate) const ACCESSORIES: [Row; 14] = [
             (Decoder, 0),
             (Top(2, 5), 0),
         ],
-        &[
-            (Text, &["signal decoder 0: aspect "]),
-            (Number(Byte(2)), &[]),
-        ],
+        &[(Number(Byte(2)), &["signal decoder 0: aspect "])],
     ),
     (
         &[
@@ -287,10 +254,8 @@ pub(crate) const ACCESSORIES: [Row; 14] = [
             (Top(2, 5), 0),
         ],
         &[
-            (Text, &["signal "]),
-            (Number(Output), &[]),
-            (Text, &[": aspect "]),
-            (Number(Byte(2)), &[]),
+            (Number(Output), &["signal "]),
+            (Number(Byte(2)), &[": aspect "]),
             (Choice(Byte(2)), &[" (stop)"]),
         ],
     ),
@@ -299,32 +264,24 @@ pub(crate) const ACCESSORIES: [Row; 14] = [
     (
         &[(Length, 6), (Bit(1, 7), 1), (Top(2, 2), 57)],
         &[
-            (Text, &["accessory decoder "]),
-            (Number(Decoder), &[]),
-            (Text, &[": verify that CV "]),
-            (Number(Variable(2)), &[]),
-            (Text, &[" is "]),
-            (Number(Byte(4)), &[]),
+            (Number(Decoder), &["accessory decoder "]),
+            (Number(Variable(2)), &[": verify that CV "]),
+            (Number(Byte(4)), &[" is "]),
         ],
     ),
     (
         &[(Length, 6), (Bit(1, 7), 1), (Top(2, 2), 59)],
         &[
-            (Text, &["accessory decoder "]),
-            (Number(Decoder), &[]),
-            (Text, &[": write "]),
-            (Number(Byte(4)), &[]),
-            (Text, &[" to CV "]),
-            (Number(Variable(2)), &[]),
+            (Number(Decoder), &["accessory decoder "]),
+            (Number(Byte(4)), &[": write "]),
+            (Number(Variable(2)), &[" to CV "]),
         ],
     ),
     (
         &[(Length, 6), (Bit(1, 7), 1), (Top(2, 2), 58)],
         &[
-            (Text, &["accessory decoder "]),
-            (Number(Decoder), &[]),
-            (Text, &[": bit of CV "]),
-            (Number(Variable(2)), &[]),
+            (Number(Decoder), &["accessory decoder "]),
+            (Number(Variable(2)), &[": bit of CV "]),
         ],
     ),
     (
@@ -336,12 +293,9 @@ pub(crate) const ACCESSORIES: [Row; 14] = [
             (Top(2, 2), 57),
         ],
         &[
-            (Text, &["signal "]),
-            (Number(Output), &[]),
-            (Text, &[": verify that CV "]),
-            (Number(Variable(2)), &[]),
-            (Text, &[" is "]),
-            (Number(Byte(4)), &[]),
+            (Number(Output), &["signal "]),
+            (Number(Variable(2)), &[": verify that CV "]),
+            (Number(Byte(4)), &[" is "]),
         ],
     ),
     (
@@ -353,12 +307,9 @@ pub(crate) const ACCESSORIES: [Row; 14] = [
             (Top(2, 2), 59),
         ],
         &[
-            (Text, &["signal "]),
-            (Number(Output), &[]),
-            (Text, &[": write "]),
-            (Number(Byte(4)), &[]),
-            (Text, &[" to CV "]),
-            (Number(Variable(2)), &[]),
+            (Number(Output), &["signal "]),
+            (Number(Byte(4)), &[": write "]),
+            (Number(Variable(2)), &[" to CV "]),
         ],
     ),
     (
@@ -370,17 +321,14 @@ pub(crate) const ACCESSORIES: [Row; 14] = [
             (Top(2, 2), 58),
         ],
         &[
-            (Text, &["signal "]),
-            (Number(Output), &[]),
-            (Text, &[": bit of CV "]),
-            (Number(Variable(2)), &[]),
+            (Number(Output), &["signal "]),
+            (Number(Variable(2)), &[": bit of CV "]),
         ],
     ),
     (
         &[(Bit(1, 7), 1)],
         &[
-            (Text, &["accessory decoder "]),
-            (Number(Decoder), &[]),
+            (Number(Decoder), &["accessory decoder "]),
             (Text, &[": unknown form"]),
         ],
     ),

@@ -11,9 +11,9 @@ use crate::pieces::{Words, push_hex, push_number, push_states, push_text};
 pub(crate) enum Part {
     /// The first text.
     Text,
-    /// A field in decimal digits.
+    /// The first text, if there is one, and a field in decimal digits.
     Number(Field),
-    /// A field in two hexadecimal digits.
+    /// The first text, if there is one, and a field in two hexadecimal digits.
     Hex(Field),
     /// The text that a field selects, the first at 0, and nothing after the last.
     Choice(Field),
@@ -81,8 +81,14 @@ fn push_part(words: &mut Words, said: &Phrase, bytes: &[u8])
     let (part, texts) = *said;
     match part {
         Part::Text => push_choice(words, texts, 0),
-        Part::Number(field) => push_number(words, value_of(field, bytes)),
-        Part::Hex(field) => push_hex(words, (value_of(field, bytes) % 256) as u8),
+        Part::Number(field) => {
+            push_choice(words, texts, 0);
+            push_number(words, value_of(field, bytes));
+        }
+        Part::Hex(field) => {
+            push_choice(words, texts, 0);
+            push_hex(words, (value_of(field, bytes) % 256) as u8);
+        }
         Part::Choice(field) => push_choice(words, texts, value_of(field, bytes)),
         Part::On(first, field) => {
             push_choice(words, texts, 0);
