@@ -132,9 +132,8 @@ pub fn sealed_is_whole()
         → IsWhole (body ++ check_of body ∷ []) }
 {}
 
-/// Returns the number of bytes of a message that begins with these two, 2 to 127; `None` if no message
-/// does. The four opcodes of a group have one number; those from E0 on have their count as the second
-/// byte.
+/// Returns the number of bytes of a message that begins with these two, or `None` if no message does:
+/// 2 from opcode 80 on, 4 from A0, 6 from C0, and from E0 on the second byte, 3 to 127.
 pub fn message_len(opcode: u8, second: u8) -> Option<usize>
     ensures { result ≡ message_len opcode second }
 {
