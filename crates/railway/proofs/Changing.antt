@@ -4,19 +4,19 @@ use Rattle.std.specs.List.{slice_index_or}
 use Rattle.ln_ops.specs.declared.sensor.SensorReport.{SensorReport}
 use Rattle.railway.specs.declared.block.Block.{Block}
 use Rattle.railway.specs.Blocks.{default_block}
-use Rattle.railway.specs.Laws.{AreChanges, IsChange}
+use Rattle.railway.specs.Laws.{AreSensorChanges, IsSensorChange}
 use Rattle.railway.specs.Reports.{change_of, changes_from, changes_through, onto}
 
 -- a report, if there is one, is one of a change
 abbrev IsOne : List Block → (was sensed is : ℕ → Bool) → Option SensorReport → Type 0
 IsOne blocks was sensed is None = Unit {0}
-IsOne blocks was sensed is (Some report) = IsChange blocks was sensed is report
+IsOne blocks was sensed is (Some report) = IsSensorChange blocks was sensed is report
 
-onto-changes : (blocks : List Block) (was sensed is : ℕ → Bool) (report : Option SensorReport) (reports : List SensorReport) → IsOne blocks was sensed is report → AreChanges blocks was sensed is reports → AreChanges blocks was sensed is (onto report reports)
+onto-changes : (blocks : List Block) (was sensed is : ℕ → Bool) (report : Option SensorReport) (reports : List SensorReport) → IsOne blocks was sensed is report → AreSensorChanges blocks was sensed is reports → AreSensorChanges blocks was sensed is (onto report reports)
 onto-changes blocks was sensed is None reports h rest = rest
 onto-changes blocks was sensed is (Some report) reports h rest = (h, rest)
 
-append-changes : (blocks : List Block) (was sensed is : ℕ → Bool) (these those : List SensorReport) → AreChanges blocks was sensed is these → AreChanges blocks was sensed is those → AreChanges blocks was sensed is (these ++ those)
+append-changes : (blocks : List Block) (was sensed is : ℕ → Bool) (these those : List SensorReport) → AreSensorChanges blocks was sensed is these → AreSensorChanges blocks was sensed is those → AreSensorChanges blocks was sensed is (these ++ those)
 append-changes blocks was sensed is [] those h g = g
 append-changes blocks was sensed is (report ∷ these) those h g = (h.0, append-changes blocks was sensed is these those h.1 g)
 
@@ -52,7 +52,7 @@ next-rest all rest block i h j less =
     subst (λ (k : ℕ). (k < length all) × (slice_index_or all k default_block ≡ slice_index_or rest j default_block)) same (h (suc j) more)
 
 from-changes : (all : List Block) (was sensed is : ℕ → Bool) (level : Bool) (before after : ℕ → Bool) → IsEach all was sensed is level before after
-    → (i : ℕ) (rest : List Block) → IsRest all rest i → AreChanges all was sensed is (changes_from level before after i rest)
+    → (i : ℕ) (rest : List Block) → IsRest all rest i → AreSensorChanges all was sensed is (changes_from level before after i rest)
 from-changes all was sensed is level before after each i [] h = tt
 from-changes all was sensed is level before after each i (block ∷ rest) h =
     let first : 0 < length (block ∷ rest) = omega arith in
@@ -67,7 +67,7 @@ all-rest all j less =
     let same : j ≡ 0 + j = omega arith in
     subst (λ (k : ℕ). (k < length all) × (slice_index_or all k default_block ≡ slice_index_or all j default_block)) same (less, refl)
 
-pub are-changes : (blocks : List Block) (was sensed is : ℕ → Bool) → AreChanges blocks was sensed is (changes_through blocks was sensed is)
+pub are-changes : (blocks : List Block) (was sensed is : ℕ → Bool) → AreSensorChanges blocks was sensed is (changes_through blocks was sensed is)
 are-changes blocks was sensed is =
     append-changes blocks was sensed is (changes_from true was sensed 0 blocks) (changes_from false sensed is 0 blocks)
     (from-changes blocks was sensed is true was sensed (λ i h sensor s. one-rise blocks was sensed is i h sensor s (was i) (sensed i) refl refl) 0 blocks (all-rest blocks))

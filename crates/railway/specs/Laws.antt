@@ -139,7 +139,7 @@ pub record IsVisited (railway : RailwayState) (micros : ℕ) (power : Power) (no
 -- A report is one of a change: that of a block as occupied is of a sensor that found it free before
 -- and occupied at a moment of the time; that of a block as free of one that found it occupied, before
 -- or then, and finds it free in the end.
-pub record IsChange (blocks : List Block) (was sensed is : (block : ℕ) → Bool)
+pub record IsSensorChange (blocks : List Block) (was sensed is : (block : ℕ) → Bool)
     (report : SensorReport) : Type 0 where
   pub block : ℕ
   pub of_plan : block < length blocks
@@ -149,11 +149,11 @@ pub record IsChange (blocks : List Block) (was sensed is : (block : ℕ) → Boo
   pub after : report.occupied ≡ false → is block ≡ false
 
 -- each of the reports is one of a change
-abbrev pub AreChanges : List Block → (was sensed is : (block : ℕ) → Bool) → List SensorReport
+abbrev pub AreSensorChanges : List Block → (was sensed is : (block : ℕ) → Bool) → List SensorReport
     → Type 0
-AreChanges blocks was sensed is [] = Unit {0}
-AreChanges blocks was sensed is (report ∷ reports) =
-    IsChange blocks was sensed is report × AreChanges blocks was sensed is reports
+AreSensorChanges blocks was sensed is [] = Unit {0}
+AreSensorChanges blocks was sensed is (report ∷ reports) =
+    IsSensorChange blocks was sensed is report × AreSensorChanges blocks was sensed is reports
 
 -- A report is one of a completed movement: of a turnout with feedback that moved, or lay at the other
 -- side, and now lies where the report says.

@@ -1,4 +1,4 @@
--- Trains that are so fast that they could pass a block unseen.
+-- Trains that are so fast that they could enter a block and leave it within a turn.
 use Rattle.std.specs.Prelude.{ℕ, ◌+◌, ◌*◌, ◌&&◌, Bool, nat_le, not, if◌then◌else◌, List, [], ◌∷◌, Option, Some, None}
 use Rattle.std.specs.List.{list_all}
 use Rattle.std.specs.Option.{option_or}
@@ -27,7 +27,7 @@ abbrev pub shortest : Option Block → List Block → Option Block
 shortest least [] = least
 shortest least (block ∷ blocks) = shortest (Some (shorter least block)) blocks
 
--- a train passes the shortest block unseen
+-- a train could pass the shortest block within a turn
 abbrev pub fault_of_speed : Option Block → (i : ℕ) → Train → Option PlanFault
 fault_of_speed None i train = None
 fault_of_speed (Some block) i train =

@@ -22,7 +22,7 @@ ghost use Rattle.railway.specs.Blocks.{default_block, length_of};
 ghost use Rattle.railway.specs.Conflicts.{conflict_in};
 ghost use Rattle.railway.specs.Driven.{AllLeaveAlone, AreDrivenBy, HasRun, IsOnWayOf, reaches, time_in, trailing_end, way_asked};
 ghost use Rattle.railway.specs.Course.{Happening, after, after_all, movements_of, movements_of_all, reports_of_all};
-ghost use Rattle.railway.specs.Laws.{AreChanges, AreCompleted, HasAllBlocks, IsCompleted, IsConflict, IsOnRails, IsOnWay, IsSensedAt, IsVisited, StandsBetween, is_among, is_failure, is_moving_end, is_sensor_failure, is_time, leading, runs_only, speed_times_time, train_after, velocity_of, way_of};
+ghost use Rattle.railway.specs.Laws.{AreSensorChanges, AreCompleted, HasAllBlocks, IsCompleted, IsConflict, IsOnRails, IsOnWay, IsSensedAt, IsVisited, StandsBetween, is_among, is_failure, is_moving_end, is_sensor_failure, is_time, leading, runs_only, speed_times_time, train_after, velocity_of, way_of};
 ghost use Rattle.railway.specs.Failures.{failing_by, has_switch, none_failing, with_sensor};
 ghost use Rattle.railway.specs.Feedback.{full_turnouts, is_alone, turnout_report_bytes, side_after, turnout_report_of};
 ghost use Rattle.railway.specs.Network.{Network, exit_of, is_sound, lies, onward, switch_at, turnouts_of, way_on};
@@ -147,7 +147,7 @@ pub fn trains_run_as_driven()
     motion::laws::ramps_end();
 }
 
-/// Without momentum the turnouts on the way of a train are those that the track reaches from its
+/// Without momentum the turnouts on the way of a train are among those that the track reaches from its
 /// trailing end, over its length and its speed times the time: up to the place to which it runs.
 pub fn turnouts_on_ways_are_reached()
     ensures reached { (network : Network) (running : Running) (micros : ℕ) (train : TrainState)
@@ -349,7 +349,7 @@ pub fn failing_turnouts_stay()
 /// Nothing is reported without a change.
 pub fn reports_are_changes()
     ensures changes { (railway : RailwayState) (micros : ℕ) (power : Power) (nodes : List Node)
-        → AreChanges railway.network.blocks (is_sensed railway)
+        → AreSensorChanges railway.network.blocks (is_sensed railway)
         (is_sensed_in railway micros power nodes)
         (is_sensed (elapsed railway micros power nodes)) (reports_in railway micros power nodes) }
 {}

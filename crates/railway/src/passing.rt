@@ -1,4 +1,4 @@
-//! Trains that are so fast that they could pass a block unseen.
+//! Trains that are so fast that they could enter a block and leave it within a turn.
 ghost use Rattle.std.specs.Prelude.{◌≡◌, ◌≤◌};
 ghost use Rattle.railway.specs.Passing.{fault_of_speed, fault_of_speeds, passes_unseen, shorter, shortest};
 
@@ -42,7 +42,7 @@ fn shortest(blocks: &[Block]) -> Option<Block>
     least
 }
 
-/// Returns the fault of a train that could pass this block unseen.
+/// Returns the fault of a train that could pass this block within a turn.
 fn fault_of_speed(block: &Option<Block>, i: usize, train: &Train) -> Option<PlanFault>
     ensures { result ≡ fault_of_speed block.now i train.now }
 {
