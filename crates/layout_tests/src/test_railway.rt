@@ -178,13 +178,14 @@ const STOP: Step = Step::Say(&[0xA0, 0x01, 0x00]);
 
 const EMERGENCY: Step = Step::Say(&[0xA0, 0x01, 0x01]);
 
-/// Where the express is put: in main, or 150 millimetres from end A of the pier with its rear.
+/// Where the express is put: 150 millimetres from end A of the pier with its rear.
 const REAR_AT_150: Position = Position {
     block: 1,
     at: 350,
     facing: End::B,
 };
 
+/// In main.
 const MAIN: Position = Position {
     block: 1,
     at: 600,

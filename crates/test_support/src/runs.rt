@@ -34,9 +34,7 @@ impl Ran {
             && self.output.as_slice() == output
             && self.faults.as_slice() == faults
     }
-}
 
-impl Ran {
     /// Whether the run reported no fault, and its output ends like this.
     pub fn has_drawn_up_to(&self, end: &[u8]) -> bool {
         self.status == 0 && self.faults.is_empty() && self.output.as_slice().ends_with(end)
