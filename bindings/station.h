@@ -184,8 +184,8 @@ uint8_t station_plan(station_layout *layout, uint8_t lines, const uint8_t *roste
  * Owed: nothing but the above. */
 bool station_elapse(station_layout *layout, uint32_t micros);
 
-/* Writes whether a part of a train is in the block of a sensor, 1 to 4096. Returns false if no block has it, or if
- * there is no layout with a track plan.
+/* Writes whether a part of a train is in the block of a sensor, 1 to 4096, as it is after the last station_elapse. Returns
+ * false if no block has it, or if there is no layout with a track plan.
  * Owed: nothing but the above. */
 bool station_sensor(station_layout *layout, uint16_t sensor, bool *occupied);
 

@@ -187,12 +187,17 @@ class Client(Throttle):
         return {sensor for sensor, occupied in self._sensors.items() if occupied}
 
     def wait_for_sensor(self, number: int, high: bool = True, seconds: float | None = None) -> None:
-        """Waits until the last report of a sensor, 1 to 4096, is that it is high: occupied; or low. Before its first it is low."""
+        """Waits until the last report of a sensor, 1 to 4096, or one that comes, is that it is high: occupied; or low.
+
+        Before its first report it is low.
+        """
         wanted = SensorReport(in_range(number, 1, LAST_SENSOR, "a sensor"), high)
         end = time.monotonic() + (self.seconds if seconds is None else seconds)
-        while (number in self.occupied()) != high:
+        is_high = number in self.occupied()
+        while is_high != high:
             reported = f"the last report was {self._reports[-1]}" if self._reports else "no sensor has reported"
             self._next_line(f"{wanted}; {reported}", end - time.monotonic())
+            is_high = self._sensors.get(number, False)  # a block may be occupied and free again within a turn
 
     def transmit(self, *body: int) -> None:
         """Sends a message, and waits until it is sent. Its reply, if there is one, is the next line."""

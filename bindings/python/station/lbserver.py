@@ -295,11 +295,11 @@ class Server(Throttle, HasNodes):
     def wait_for_sensor(self, number: int, high: bool = True, seconds: float | None = None, since: int | None = None) -> None:
         """Waits until a sensor, 1 to 4096, is high: occupied; or low. With a mark `since` it has to report so after the mark."""
         wanted = SensorReport(in_range(number, 1, LAST_SENSOR, "a sensor"), high)
+        begun = self.mark() if since is None else since
 
         def is_so() -> bool:
-            if since is not None:
-                return wanted in self.sensor_reports(since)
-            return (number in self.occupied()) == high
+            is_last = since is None and (number in self.occupied()) == high
+            return is_last or wanted in self.sensor_reports(begun)
 
         def words() -> str:
             reports = self.sensor_reports()
