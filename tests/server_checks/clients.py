@@ -175,8 +175,8 @@ def nodes_are_left():
     def leave():
         with roster_of(64) as file, serve("--roster", file, "--turns", "255") as server, Client(server) as busy:
             with Client(server) as client, stopped(server, 0):
-                # A round reads 33 messages: they last as long as the answer, a line a round.
-                busy.write(send(*33 * 64 * [POWER_ON]))
+                # A round reads 33 messages: they last four times as long as the answer, a line a round.
+                busy.write(send(*33 * 256 * [POWER_ON]))
                 client.write(["NODES"])
                 client.stream.shutdown(socket.SHUT_WR)
             printed_after(server, "client 2 leaves")
