@@ -1,5 +1,5 @@
 //! The bus, with a railway and a programming track beside it and a send queue for each client.
-ghost use Rattle.std.specs.Prelude.{◌≡◌, ◌<◌, ◌≤◌, ◌&&◌, ◌∷◌, [], ◌++◌, Bool, IfNone, IfOk, IfSome, IsTrue, OnSome, is_some, length, not, slice_index_or, slice_set, drop, take, map, option_copied, None, Some, true};
+ghost use Rattle.std.specs.Prelude.{◌≡◌, ◌<◌, ◌≤◌, ◌&&◌, ◌∷◌, [], ◌++◌, Bool, IfNone, IfSome, IsTrue, OnSome, is_some, length, not, slice_index_or, slice_set, drop, take, map, option_copied, None, Some, true};
 ghost use Rattle.std.specs.List.{list_all};
 ghost use Rattle.bus_server.specs.SendQueue.{is_within_capacity, queued};
 ghost use Rattle.layout_core.specs.Nodes.{spec_of};
@@ -11,20 +11,17 @@ ghost use Rattle.bus_server.specs.NamedNodes.{names_of, specs_of};
 ghost use Rattle.bus_server.specs.Pace.{is_pace};
 
 use crate::CLIENTS;
-use crate::answers::{Answers, specs};
+use crate::answers::Answers;
 use crate::losses::Losses;
-use crate::named_node::NamedNodes;
 use crate::pace::Pace;
-use crate::send_queues::{SendQueues, empty_queues};
+use crate::send_queues::SendQueues;
 use crate::sensors::Sensors;
 use crate::track_due::TrackDue;
 use crate::transport::{IoOutcome, Transport};
-use bus::{Bus, BusOptions, Event, Outcome};
+use bus::{Bus, Event, Outcome};
 use layout_core::World;
 use loconet_tcp::{Text, push_turns_ok};
-use programming_track::ProgrammingBench;
 use railway::Railway;
-use std::alloc::{AllocError, Global};
 
 /// The bus, with a railway and a programming track beside it and a send queue for each client.
 #[derive(Drop)]
@@ -65,54 +62,7 @@ impl Hub {
     ghost use Rattle.bus_server.specs.Rounds.{accepts_first, backlog_after};
     ghost use Rattle.bus_server.specs.Snapshots.{HasReported, WritesFront, state_of};
     ghost use Rattle.bus_server.specs.Hub.{RunsOnBus, with_trains_run};
-    ghost use Rattle.bus_server.specs.ServerState.{RunsEvent, IsDrawn, initial_state, has_overflowed, is_crowded, outcome_in, round_start};
-
-    /// A new layout with these decoders, a railway and a programming track beside it or none, and no
-    /// clients. It takes all its memory here.
-    ///
-    /// # Errors
-    ///
-    /// Out of memory.
-    pub(crate) fn new(
-        alloc: Global,
-        nodes: NamedNodes,
-        railway: Option<Railway>,
-        programming: Option<ProgrammingBench>,
-        pace: Pace,
-        losses: Losses,
-    ) -> Result<Hub, AllocError>
-        requires pace { IsTrue (is_pace pace) }
-        ensures hub { IfOk result
-            (λ hub. state_of hub
-            ≡ initial_state (specs_of nodes.items) (names_of nodes.items) railway programming pace
-            losses) }
-        ensures specs { IfOk result
-            (λ hub. map spec_of hub.bus.world.nodes ≡ specs_of nodes.items) }
-        ensures reported { IfOk result HasReported }
-    {
-        let options = BusOptions {
-            is_stepped: pace.follows_messages(),
-            has_sensors: railway.is_some(),
-            has_programmer: programming.is_some(),
-        };
-        let bus = match Bus::new(alloc, specs(&nodes), options) {
-            Ok(bus) => bus,
-            Err(_) => return Err(AllocError),
-        };
-        let queues = empty_queues(alloc)?;
-        Ok(Hub {
-            bus,
-            sensors: Sensors::new(railway, programming),
-            queues,
-            answers: Answers::new(nodes),
-            track_due: TrackDue::none(),
-            losses,
-            pace,
-            first_client: 0,
-            disconnected: 0,
-            has_backlog: false,
-        })
-    }
+    ghost use Rattle.bus_server.specs.ServerState.{RunsEvent, IsDrawn, has_overflowed, is_crowded, outcome_in, round_start};
 
     /// Runs one event, and enqueues its text for each client. What decoders miss of it is drawn
     /// already, and trains have run in its time.

@@ -16,13 +16,17 @@ ghost use Rattle.bus_server.specs.Rounds.{Accepts, AcceptsFirst, AcceptsSome, Al
 ghost use Rattle.bus_server.specs.StoppedRuns.{Stops};
 
 use crate::CLIENTS;
+use crate::answers::{Answers, specs};
 use crate::hub::Hub;
 use crate::losses::Losses;
 use crate::named_node::NamedNodes;
 use crate::observer::Observer;
 use crate::pace::Pace;
+use crate::send_queues::empty_queues;
+use crate::sensors::Sensors;
+use crate::track_due::TrackDue;
 use crate::transport::{IoOutcome, Transport};
-use bus::{Event, Outcome};
+use bus::{Bus, BusOptions, Event, Outcome};
 use layout_core::World;
 use programming_track::ProgrammingBench;
 use railway::Railway;
@@ -64,9 +68,29 @@ impl Server {
             (λ server. map spec_of server.hub.bus.world.nodes ≡ specs_of nodes.items) }
         ensures reported { IfOk result (λ server. HasReported server.hub) }
     {
-        Ok(Server {
-            hub: Hub::new(alloc, nodes, railway, programming, pace, losses)?,
-        })
+        let options = BusOptions {
+            is_stepped: pace.follows_messages(),
+            has_sensors: railway.is_some(),
+            has_programmer: programming.is_some(),
+        };
+        let bus = match Bus::new(alloc, specs(&nodes), options) {
+            Ok(bus) => bus,
+            Err(_) => return Err(AllocError),
+        };
+        let queues = empty_queues(alloc)?;
+        let hub = Hub {
+            bus,
+            sensors: Sensors::new(railway, programming),
+            queues,
+            answers: Answers::new(nodes),
+            track_due: TrackDue::none(),
+            losses,
+            pace,
+            first_client: 0,
+            disconnected: 0,
+            has_backlog: false,
+        };
+        Ok(Server { hub })
     }
 
     /// The layout.
