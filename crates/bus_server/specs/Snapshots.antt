@@ -1,5 +1,5 @@
 -- A server as contracts see it, and how it progresses with its transport and its observer.
-use Rattle.std.specs.Prelude.{ℕ, ◌≡◌, ◌⊎◌, Bool, true, false, List, [], ◌∷◌, map, Option}
+use Rattle.std.specs.Prelude.{ℕ, ◌≡◌, ◌⊎◌, Bool, true, false, List, [], ◌∷◌, map, OnOk, Option, Result}
 use Rattle.std.specs.List.{list_all}
 use Rattle.bus.specs.State.{bus_state}
 use Rattle.bus_server.specs.Observations.{Observation}
@@ -41,6 +41,14 @@ ObservesLayout decoder_specs hub = map spec_of hub.bus.world.nodes ≡ decoder_s
 -- all that devices were to report has been reported
 abbrev pub HasReported : Hub → Type 0
 HasReported hub = queue_of hub.sensors.unreported ≡ []
+
+-- Both hold before an event is applied.
+abbrev pub IsReady : (decoder_specs : List NodeSpec) → Hub → Type 0
+IsReady decoder_specs hub = ObservesLayout decoder_specs hub × HasReported hub
+
+-- Both hold after a call that succeeded. After a fault of the observer reports may be left.
+abbrev pub IsReadyAfter : {T E : Type 0} → Result T E → (decoder_specs : List NodeSpec) → Hub → Type 0
+IsReadyAfter result decoder_specs hub = ObservesLayout decoder_specs hub × OnOk result (HasReported hub)
 
 -- one moment: the transport's log, the observer's, and the server
 pub record Snapshot : Type 0 where

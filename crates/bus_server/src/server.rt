@@ -11,7 +11,7 @@ ghost use Rattle.bus_server.specs.NamedNodes.{names_of, specs_of};
 ghost use Rattle.bus_server.specs.Pace.{is_pace};
 ghost use Rattle.bus_server.specs.Reading.{IsReadNext, ReadsOne};
 ghost use Rattle.bus_server.specs.Hub.{ObservesReports};
-ghost use Rattle.bus_server.specs.Snapshots.{HasReported, ProgressesBy, Progresses, ProgressesWithoutInput, Snapshot, AcceptsAt, IsObserved, ObservesLayout, snapshot, state_of};
+ghost use Rattle.bus_server.specs.Snapshots.{HasReported, ProgressesBy, Progresses, ProgressesWithoutInput, Snapshot, AcceptsAt, IsObserved, IsReady, IsReadyAfter, ObservesLayout, snapshot, state_of};
 ghost use Rattle.bus_server.specs.Rounds.{Accepts, AcceptsFirst, AcceptsSome, AllWrittenTo, IsFair, IsRound, Reads, ServesClient, ServesClients, Writes, WritesNone, refusals};
 ghost use Rattle.bus_server.specs.StoppedRuns.{Stops};
 
@@ -170,10 +170,8 @@ impl Server {
         transport: &mut W,
         observer: &mut P,
     ) -> Result<(), P::Fault>
-        requires observes { ObservesLayout (P.decoder_specs observer.old) self.old.hub }
-        requires reported { HasReported self.old.hub }
-        ensures observes { ObservesLayout (P.decoder_specs observer.new) self.new.hub }
-        ensures reported { OnOk result (HasReported self.new.hub) }
+        requires ready { IsReady (P.decoder_specs observer.old) self.old.hub }
+        ensures ready { IsReadyAfter result (P.decoder_specs observer.new) self.new.hub }
         ensures served { OnOk result
             (ProgressesBy AcceptsFirst
             (snapshot (W.log transport.old) (P.observed observer.old) self.old.hub)
@@ -195,10 +193,8 @@ impl Server {
         transport: &mut W,
         observer: &mut P,
     ) -> Result<(), P::Fault>
-        requires observes { ObservesLayout (P.decoder_specs observer.old) self.old.hub }
-        requires reported { HasReported self.old.hub }
-        ensures observes { ObservesLayout (P.decoder_specs observer.new) self.new.hub }
-        ensures reported { OnOk result (HasReported self.new.hub) }
+        requires ready { IsReady (P.decoder_specs observer.old) self.old.hub }
+        ensures ready { IsReadyAfter result (P.decoder_specs observer.new) self.new.hub }
         ensures served { OnOk result
             (ProgressesBy (ServesClients self.old.hub.first_client 8)
             (snapshot (W.log transport.old) (P.observed observer.old) self.old.hub)
@@ -222,10 +218,8 @@ impl Server {
         observer: &mut P,
     ) -> Result<(), P::Fault>
         requires client { client < 8 }
-        requires observes { ObservesLayout (P.decoder_specs observer.old) self.old.hub }
-        requires reported { HasReported self.old.hub }
-        ensures observes { ObservesLayout (P.decoder_specs observer.new) self.new.hub }
-        ensures reported { OnOk result (HasReported self.new.hub) }
+        requires ready { IsReady (P.decoder_specs observer.old) self.old.hub }
+        ensures ready { IsReadyAfter result (P.decoder_specs observer.new) self.new.hub }
         ensures served { OnOk result
             (ProgressesBy (ServesClient client)
             (snapshot (W.log transport.old) (P.observed observer.old) self.old.hub)
@@ -244,10 +238,8 @@ impl Server {
         transport: &mut W,
         observer: &mut P,
     ) -> Result<(), P::Fault>
-        requires observes { ObservesLayout (P.decoder_specs observer.old) self.old.hub }
-        requires reported { HasReported self.old.hub }
-        ensures observes { ObservesLayout (P.decoder_specs observer.new) self.new.hub }
-        ensures reported { OnOk result (HasReported self.new.hub) }
+        requires ready { IsReady (P.decoder_specs observer.old) self.old.hub }
+        ensures ready { IsReadyAfter result (P.decoder_specs observer.new) self.new.hub }
         ensures served { OnOk result
             (ProgressesBy Accepts
             (snapshot (W.log transport.old) (P.observed observer.old) self.old.hub)
@@ -274,10 +266,8 @@ impl Server {
         observer: &mut P,
     ) -> Result<bool, P::Fault>
         requires turns { has_turns_to_follow (state_of self.old.hub) ≡ false }
-        requires observes { ObservesLayout (P.decoder_specs observer.old) self.old.hub }
-        requires reported { HasReported self.old.hub }
-        ensures observes { ObservesLayout (P.decoder_specs observer.new) self.new.hub }
-        ensures reported { OnOk result (HasReported self.new.hub) }
+        requires ready { IsReady (P.decoder_specs observer.old) self.old.hub }
+        ensures ready { IsReadyAfter result (P.decoder_specs observer.new) self.new.hub }
         ensures served { IfOk result
             (λ is_full. ProgressesWithoutInput (AcceptsSome is_full)
             (snapshot (W.log transport.old) (P.observed observer.old) self.old.hub)
@@ -303,10 +293,8 @@ impl Server {
     ) -> Result<bool, P::Fault>
         requires client { client < 8 }
         requires turns { has_turns_to_follow (state_of self.old.hub) ≡ false }
-        requires observes { ObservesLayout (P.decoder_specs observer.old) self.old.hub }
-        requires reported { HasReported self.old.hub }
-        ensures observes { ObservesLayout (P.decoder_specs observer.new) self.new.hub }
-        ensures reported { OnOk result (HasReported self.new.hub) }
+        requires ready { IsReady (P.decoder_specs observer.old) self.old.hub }
+        ensures ready { IsReadyAfter result (P.decoder_specs observer.new) self.new.hub }
         ensures seats { IfOk result
             (λ is_taken.
             AcceptsAt client is_taken
@@ -336,10 +324,8 @@ impl Server {
         observer: &mut P,
     ) -> Result<(), P::Fault>
         requires client { client < 8 }
-        requires observes { ObservesLayout (P.decoder_specs observer.old) self.old.hub }
-        requires reported { HasReported self.old.hub }
-        ensures observes { ObservesLayout (P.decoder_specs observer.new) self.new.hub }
-        ensures reported { OnOk result (HasReported self.new.hub) }
+        requires ready { IsReady (P.decoder_specs observer.old) self.old.hub }
+        ensures ready { IsReadyAfter result (P.decoder_specs observer.new) self.new.hub }
         ensures served { OnOk result
             (ProgressesWithoutInput (λ more all. (has_overflowed all client ≡ false) × WritesNone more)
             (snapshot (W.log transport.old) (P.observed observer.old) self.old.hub)
@@ -365,10 +351,8 @@ impl Server {
         observer: &mut P,
     ) -> Result<(), P::Fault>
         requires client { client < 8 }
-        requires observes { ObservesLayout (P.decoder_specs observer.old) self.old.hub }
-        requires reported { HasReported self.old.hub }
-        ensures observes { ObservesLayout (P.decoder_specs observer.new) self.new.hub }
-        ensures reported { OnOk result (HasReported self.new.hub) }
+        requires ready { IsReady (P.decoder_specs observer.old) self.old.hub }
+        ensures ready { IsReadyAfter result (P.decoder_specs observer.new) self.new.hub }
         ensures served { OnOk result
             (ProgressesBy (Reads client)
             (snapshot (W.log transport.old) (P.observed observer.old) self.old.hub)
@@ -398,10 +382,8 @@ impl Server {
     ) -> Result<bool, P::Fault>
         requires client { client < 8 }
         requires waits { waits (state_of self.old.hub) client ≡ false }
-        requires observes { ObservesLayout (P.decoder_specs observer.old) self.old.hub }
-        requires reported { HasReported self.old.hub }
-        ensures observes { ObservesLayout (P.decoder_specs observer.new) self.new.hub }
-        ensures reported { OnOk result (HasReported self.new.hub) }
+        requires ready { IsReady (P.decoder_specs observer.old) self.old.hub }
+        ensures ready { IsReadyAfter result (P.decoder_specs observer.new) self.new.hub }
         ensures served { IfOk result
             (λ goes_on. ReadsOne client goes_on
             (snapshot (W.log transport.old) (P.observed observer.old) self.old.hub)
@@ -430,10 +412,8 @@ impl Server {
     ) -> Result<bool, P::Fault>
         requires client { client < 8 }
         requires waits { waits (state_of self.old.hub) client ≡ false }
-        requires observes { ObservesLayout (P.decoder_specs observer.old) self.old.hub }
-        requires reported { HasReported self.old.hub }
-        ensures observes { ObservesLayout (P.decoder_specs observer.new) self.new.hub }
-        ensures reported { OnOk result (HasReported self.new.hub) }
+        requires ready { IsReady (P.decoder_specs observer.old) self.old.hub }
+        ensures ready { IsReadyAfter result (P.decoder_specs observer.new) self.new.hub }
         ensures happened { IfOk result (λ goes_on. IsReadNext client goes_on (Received client byte)
             (state_of self.old.hub) (state_of self.new.hub)
             × IsObserved (λ applied.
@@ -458,10 +438,8 @@ impl Server {
         transport: &mut W,
         observer: &mut P,
     ) -> Result<(), P::Fault>
-        requires observes { ObservesLayout (P.decoder_specs observer.old) self.old.hub }
-        requires reported { HasReported self.old.hub }
-        ensures observes { ObservesLayout (P.decoder_specs observer.new) self.new.hub }
-        ensures reported { OnOk result (HasReported self.new.hub) }
+        requires ready { IsReady (P.decoder_specs observer.old) self.old.hub }
+        ensures ready { IsReadyAfter result (P.decoder_specs observer.new) self.new.hub }
         ensures served { OnOk result
             (ProgressesWithoutInput (λ more all. AllWrittenTo 8 more all × IsFair more)
             (snapshot (W.log transport.old) (P.observed observer.old) self.old.hub)
@@ -485,10 +463,8 @@ impl Server {
         observer: &mut P,
     ) -> Result<(), P::Fault>
         requires client { client < 8 }
-        requires observes { ObservesLayout (P.decoder_specs observer.old) self.old.hub }
-        requires reported { HasReported self.old.hub }
-        ensures observes { ObservesLayout (P.decoder_specs observer.new) self.new.hub }
-        ensures reported { OnOk result (HasReported self.new.hub) }
+        requires ready { IsReady (P.decoder_specs observer.old) self.old.hub }
+        ensures ready { IsReadyAfter result (P.decoder_specs observer.new) self.new.hub }
         ensures served { OnOk result
             (ProgressesWithoutInput (Writes client)
             (snapshot (W.log transport.old) (P.observed observer.old) self.old.hub)
@@ -515,10 +491,8 @@ impl Server {
         requires event { IsTrue (is_event event) }
         requires clients { is_time event ≡ false }
         requires place { IsTrue (is_accepted (state_of self.old.hub) event) }
-        requires observes { ObservesLayout (P.decoder_specs observer.old) self.old.hub }
-        requires reported { HasReported self.old.hub }
-        ensures observes { ObservesLayout (P.decoder_specs observer.new) self.new.hub }
-        ensures reported { OnOk result (HasReported self.new.hub) }
+        requires ready { IsReady (P.decoder_specs observer.old) self.old.hub }
+        ensures ready { IsReadyAfter result (P.decoder_specs observer.new) self.new.hub }
         ensures outcome { IfOk result
             (λ outcome. outcome ≡ outcome_in (state_of self.old.hub) event) }
         ensures happened { IsObserved (λ applied.
@@ -537,8 +511,7 @@ impl Server {
         observer: &mut P,
     ) -> Result<(), P::Fault>
         requires observes { ObservesLayout (P.decoder_specs observer.old) self.old.hub }
-        ensures observes { ObservesLayout (P.decoder_specs observer.new) self.new.hub }
-        ensures reported { OnOk result (HasReported self.new.hub) }
+        ensures ready { IsReadyAfter result (P.decoder_specs observer.new) self.new.hub }
         ensures log { ObservesReports outcome.now (P.observed observer.old)
             (P.observed observer.new) (state_of self.old.hub) (state_of self.new.hub) }
     {

@@ -2,7 +2,7 @@
 ghost use Rattle.std.specs.Prelude.{◌≡◌, ◌<◌, ◌≤◌, ◌+◌, ◌-◌, IfOk, ℕ, List, OnErr, OnOk};
 ghost use Rattle.bus.specs.Course.{micros_in};
 ghost use Rattle.bus_server.specs.ServerState.{LoggedEvent, events_of};
-ghost use Rattle.bus_server.specs.Snapshots.{HasReported, IsObserved, ObservesLayout, state_of};
+ghost use Rattle.bus_server.specs.Snapshots.{IsObserved, IsReady, IsReadyAfter, state_of};
 ghost use Rattle.bus_server.specs.StoppedRuns.{StopsInTime, StopsInTurns};
 ghost use Rattle.bus_server.specs.Track.{IsShare, RunsSteps, RunsTime, RunsTurns, RunsTurnsOf, is_piece, is_turn, turns_left, with_time_due};
 
@@ -19,10 +19,8 @@ const MAX_STEPS: u16 = 100;
 impl Server {
     /// Runs some of the turns that are due to each client.
     pub(crate) fn run_turns<P: Observer>(&mut self, observer: &mut P) -> Result<(), P::Fault>
-        requires observes { ObservesLayout (P.decoder_specs observer.old) self.old.hub }
-        requires reported { HasReported self.old.hub }
-        ensures observes { ObservesLayout (P.decoder_specs observer.new) self.new.hub }
-        ensures reported { OnOk result (HasReported self.new.hub) }
+        requires ready { IsReady (P.decoder_specs observer.old) self.old.hub }
+        ensures ready { IsReadyAfter result (P.decoder_specs observer.new) self.new.hub }
         ensures happened { OnOk result
             (IsObserved (λ applied. RunsTurns 8 applied (state_of self.old.hub) (state_of self.new.hub))
             (P.observed observer.old) (P.observed observer.new)) }
@@ -39,10 +37,8 @@ impl Server {
     /// Runs some of the turns that are due to a client, after which it may be read.
     fn run_turns_of<P: Observer>(&mut self, client: u8, observer: &mut P) -> Result<(), P::Fault>
         requires client { client < 8 }
-        requires observes { ObservesLayout (P.decoder_specs observer.old) self.old.hub }
-        requires reported { HasReported self.old.hub }
-        ensures observes { ObservesLayout (P.decoder_specs observer.new) self.new.hub }
-        ensures reported { OnOk result (HasReported self.new.hub) }
+        requires ready { IsReady (P.decoder_specs observer.old) self.old.hub }
+        ensures ready { IsReadyAfter result (P.decoder_specs observer.new) self.new.hub }
         ensures happened { OnOk result
             (IsObserved (λ applied.
             RunsTurnsOf client applied (state_of self.old.hub) (state_of self.new.hub))
@@ -67,10 +63,8 @@ impl Server {
     /// quarter full. Returns how many.
     fn run_up_to<P: Observer>(&mut self, owed: u16, observer: &mut P) -> Result<u16, P::Fault>
         requires some { 0 < owed }
-        requires observes { ObservesLayout (P.decoder_specs observer.old) self.old.hub }
-        requires reported { HasReported self.old.hub }
-        ensures observes { ObservesLayout (P.decoder_specs observer.new) self.new.hub }
-        ensures reported { OnOk result (HasReported self.new.hub) }
+        requires ready { IsReady (P.decoder_specs observer.old) self.old.hub }
+        ensures ready { IsReadyAfter result (P.decoder_specs observer.new) self.new.hub }
         ensures happened { IfOk result (λ count. IsShare count count owed (state_of self.new.hub)
             × IsObserved (λ applied.
             RunsSteps is_turn count applied (state_of self.old.hub) (state_of self.new.hub))
@@ -93,10 +87,8 @@ impl Server {
 
     /// Runs the track for some of the time that is due.
     pub(crate) fn run_time<P: Observer>(&mut self, observer: &mut P) -> Result<(), P::Fault>
-        requires observes { ObservesLayout (P.decoder_specs observer.old) self.old.hub }
-        requires reported { HasReported self.old.hub }
-        ensures observes { ObservesLayout (P.decoder_specs observer.new) self.new.hub }
-        ensures reported { OnOk result (HasReported self.new.hub) }
+        requires ready { IsReady (P.decoder_specs observer.old) self.old.hub }
+        ensures ready { IsReadyAfter result (P.decoder_specs observer.new) self.new.hub }
         ensures happened { OnOk result
             (IsObserved (λ applied. RunsTime (state_of self.old.hub).time_due applied
             (state_of self.old.hub) (state_of self.new.hub))
@@ -115,10 +107,8 @@ impl Server {
     /// a queue is more than a quarter full. No piece is longer than the turn under way, so that trains
     /// run as the decoders do. Returns how much is left.
     fn run_pieces<P: Observer>(&mut self, owed: u32, observer: &mut P) -> Result<u32, P::Fault>
-        requires observes { ObservesLayout (P.decoder_specs observer.old) self.old.hub }
-        requires reported { HasReported self.old.hub }
-        ensures observes { ObservesLayout (P.decoder_specs observer.new) self.new.hub }
-        ensures reported { OnOk result (HasReported self.new.hub) }
+        requires ready { IsReady (P.decoder_specs observer.old) self.old.hub }
+        ensures ready { IsReadyAfter result (P.decoder_specs observer.new) self.new.hub }
         ensures happened { IfOk result (λ rest. IsObserved (λ applied. (count micros : ℕ)
             × (micros + rest ≡ owed)
             × RunsSteps is_piece count applied (state_of self.old.hub) (state_of self.new.hub)

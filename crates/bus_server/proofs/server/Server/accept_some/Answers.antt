@@ -12,8 +12,7 @@ use Rattle.bus_server.proofs.server.Server.accept_some.Goals as goal
 
 pub loop-client-init : goal.loop-client-init
 loop-client-init g c = record {
-  observes = c.requires.observes;
-  reported = c.requires.reported;
+  ready = c.requires.ready;
   turns = c.requires.turns;
   served = calm_nowhere (HasAccepted 0) (snapshot (g.W.Transport.log c.args.transport.now) (g.P.Observer.observed c.args.observer.now) c.args.self.now.hub) (refl, λ client within. absurd (omega (arith, within)));
 }
@@ -23,8 +22,7 @@ loop-client-preserved g c =
     let first = c.loop-client in
     let seats = rw c.if-not-branch.false at c.in_ok-accept_at.ensures.seats in
     record {
-      observes = c.accept_at.ensures.observes;
-      reported = c.in_ok-accept_at.ensures.reported;
+      ready = c.in_ok-accept_at.ensures.ready;
       turns = ap (λ (turns : List TurnsDue). list_any follow_message turns) seats.4.1.1.turns ∙ first.invariant.turns;
       served =
           calm_then (HasAccepted first.client) (λ more all. (list_all is_accept more ≡ true) × HasMoreClients first.client (state_of first.self.hub) all) (HasAccepted (first.client + 1)) (snapshot (g.W.Transport.log c.args.transport.now) (g.P.Observer.observed c.args.observer.now) c.args.self.now.hub) (snapshot (g.W.Transport.log first.transport) (g.P.Observer.observed first.observer) first.self.hub) (snapshot (g.W.Transport.log c.accept_at.new.transport) (g.P.Observer.observed c.accept_at.new.observer) c.accept_at.new.self.hub)

@@ -12,7 +12,7 @@ returns-clause-happened g c =
     let mid = state_of c.step-outcome.new.self in
     let observed : Observation = Observed c.step-outcome.result c.step-outcome.new.self.bus.world.nodes c.step-outcome.new.self.sensors.railway in
     let one : LoggedEvent = record { event = event; observed = observed } in
-    let happens = client_runs event observed old mid c.requires.clients c.requires.reported c.step-outcome.ensures.runs in
+    let happens = client_runs event observed old mid c.requires.clients c.requires.ready.1 c.step-outcome.ensures.runs in
     let reports = c.observe.ensures.log in
     (one ∷ reports.0, reports.1, (c.requires.place, (refl, reports.2), (mid, happens, reports.3)))
 
@@ -23,6 +23,6 @@ returns-in_err-observe-clause-happened g c =
     let mid = state_of c.step-outcome.new.self in
     let observed : Observation = Observed c.step-outcome.result c.step-outcome.new.self.bus.world.nodes c.step-outcome.new.self.sensors.railway in
     let one : LoggedEvent = record { event = event; observed = observed } in
-    let happens = client_runs event observed old mid c.requires.clients c.requires.reported c.step-outcome.ensures.runs in
+    let happens = client_runs event observed old mid c.requires.clients c.requires.ready.1 c.step-outcome.ensures.runs in
     let reports = c.observe.ensures.log in
     (one ∷ reports.0, reports.1, (c.requires.place, (refl, reports.2), (mid, happens, reports.3)))

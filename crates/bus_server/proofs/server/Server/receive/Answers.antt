@@ -15,8 +15,7 @@ returns-then-must_wait-clause-served g c = (
 
 pub loop-byte-init : goal.loop-byte-init
 loop-byte-init g c = record {
-  observes = c.requires.observes;
-  reported = c.requires.reported;
+  ready = c.requires.ready;
   waits = sym c.must_wait.ensures ∙ c.if-must_wait.false;
   served = ([], refl, grows_none (g.W.Transport.log c.args.transport.now), grows_none (g.P.Observer.observed c.args.observer.now), refl);
 }
@@ -29,8 +28,7 @@ loop-byte-preserved g c =
     let so_far = first.invariant.served in
     let one = rw c.if-not-branch.false at c.in_ok-receive_byte.ensures.served in
     record {
-      observes = c.receive_byte.ensures.observes;
-      reported = c.in_ok-receive_byte.ensures.reported;
+      ready = c.in_ok-receive_byte.ensures.ready;
       waits = one.5.0;
       served = (
         so_far.0 ++ one.0 ∷ [],

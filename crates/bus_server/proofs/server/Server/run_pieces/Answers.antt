@@ -12,8 +12,7 @@ use Rattle.bus_server.proofs.server.Server.run_pieces.Goals as goal
 
 pub loop-piece-init : goal.loop-piece-init
 loop-piece-init g c = record {
-  observes = c.requires.observes;
-  reported = c.requires.reported;
+  ready = c.requires.ready;
   room = λ some. absurd (omega (arith, some));
   happened = ([], grows_none (g.P.Observer.observed c.args.observer.now), (0, omega arith, (refl, refl), refl));
 }
@@ -36,8 +35,7 @@ loop-piece-preserved g c =
     let elapsed : micros_in start.bus (events_of applied) ≡ so_far.2.0 + piece = micros_more piece happens.0 observed so_far.0 reports.0 start.bus so_far.2.0 so_far.2.3 reports.2 in
     let within : piece ≤ c.loop-piece.rest = omega (arith, c.min-piece.ensures, c.min.ensures) in
     record {
-      observes = c.observe.ensures.observes;
-      reported = c.in_ok-observe.ensures.reported;
+      ready = c.in_ok-observe.ensures.ready;
       room = λ some. sym c.is_crowded.ensures ∙ c.if-is_crowded.false;
       happened = (applied, shown, (so_far.2.0 + piece, omega (arith, so_far.2.1, within), steps, elapsed));
     }

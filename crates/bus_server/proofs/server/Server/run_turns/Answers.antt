@@ -7,7 +7,7 @@ use Rattle.bus_server.proofs.Tracking.{turns_then}
 use Rattle.bus_server.proofs.server.Server.run_turns.Goals as goal
 
 pub loop-client-init : goal.loop-client-init
-loop-client-init g c = record { observes = c.requires.observes; reported = c.requires.reported; happened = ([], grows_none (g.P.Observer.observed c.args.observer.now), (refl, refl)) }
+loop-client-init g c = record { ready = c.requires.ready; happened = ([], grows_none (g.P.Observer.observed c.args.observer.now), (refl, refl)) }
 
 pub loop-client-preserved : goal.loop-client-preserved
 loop-client-preserved g c =
@@ -15,8 +15,7 @@ loop-client-preserved g c =
     let so_far = first.invariant.happened in
     let one = c.in_ok-run_turns_of.ensures.happened in
     record {
-      observes = c.run_turns_of.ensures.observes;
-      reported = c.in_ok-run_turns_of.ensures.reported;
+      ready = c.in_ok-run_turns_of.ensures.ready;
       happened = (
         so_far.0 ++ one.0,
         shown_more (g.P.Observer.observed c.args.observer.now) (g.P.Observer.observed first.observer) (g.P.Observer.observed c.run_turns_of.new.observer) so_far.0 one.0 so_far.1 one.1,

@@ -11,8 +11,7 @@ use Rattle.bus_server.proofs.server.Server.run_up_to.Goals as goal
 
 pub loop-turn-init : goal.loop-turn-init
 loop-turn-init g c = record {
-  observes = c.requires.observes;
-  reported = c.requires.reported;
+  ready = c.requires.ready;
   room = λ some. absurd (omega (arith, some));
   happened = ([], grows_none (g.P.Observer.observed c.args.observer.now), (refl, refl));
 }
@@ -30,8 +29,7 @@ loop-turn-preserved g c =
     steps_more is_turn c.loop-turn.turn so_far.0 (one ∷ reports.0) (state_of c.args.self.now.hub) (state_of c.loop-turn.self.hub) (state_of c.observe.new.self.hub) so_far.2 c.loop-turn.invariant.room
     (Turn missed, refl, (refl, reports.2), (state_of c.turn-outcome.new.self, c.turn-outcome.ensures.happens.1, reports.3)) in
     record {
-      observes = c.observe.ensures.observes;
-      reported = c.in_ok-observe.ensures.reported;
+      ready = c.in_ok-observe.ensures.ready;
       room = λ some. sym c.is_crowded.ensures ∙ c.if-is_crowded.false;
       happened = (applied, shown, steps);
     }

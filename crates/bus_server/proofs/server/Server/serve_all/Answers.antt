@@ -8,8 +8,7 @@ use Rattle.bus_server.proofs.server.Server.serve_all.Goals as goal
 
 pub loop-count-init : goal.loop-count-init
 loop-count-init g c = record {
-  observes = c.requires.observes;
-  reported = c.requires.reported;
+  ready = c.requires.ready;
   served = ([], grows_none (g.W.Transport.log c.args.transport.now), grows_none (g.P.Observer.observed c.args.observer.now), (refl, refl));
 }
 
@@ -21,8 +20,7 @@ loop-count-preserved g c =
     let so_far = first.invariant.served in
     let turn = c.in_ok-serve.ensures.served in
     record {
-      observes = c.serve.ensures.observes;
-      reported = c.in_ok-serve.ensures.reported;
+      ready = c.in_ok-serve.ensures.ready;
       served = (
         so_far.0 ++ turn.0,
         wire_more (log c.args.transport.now) (log first.transport) (log c.serve.new.transport) so_far.0 turn.0 so_far.1 turn.1,

@@ -12,7 +12,7 @@ use Rattle.bus_server.specs.TransportEvents.{PeerClosed}
 use Rattle.bus_server.proofs.server.Server.write.Goals as goal
 
 pub loop-piece-init : goal.loop-piece-init
-loop-piece-init g c = record { observes = c.requires.observes; reported = c.requires.reported; served = calm_nowhere (HasPut c.args.client 0) (snapshot (g.W.Transport.log c.args.transport.now) (g.P.Observer.observed c.args.observer.now) c.args.self.now.hub) (refl, refl) }
+loop-piece-init g c = record { ready = c.requires.ready; served = calm_nowhere (HasPut c.args.client 0) (snapshot (g.W.Transport.log c.args.transport.now) (g.P.Observer.observed c.args.observer.now) c.args.self.now.hub) (refl, refl) }
 
 pub loop-piece-preserved : goal.loop-piece-preserved
 loop-piece-preserved g c =
@@ -22,8 +22,7 @@ loop-piece-preserved g c =
     let after = snapshot (g.W.Transport.log c.write.new.transport) (g.P.Observer.observed first.observer) c.write.new.self in
     let wrote = c.in-Bytes.ensures.wrote in
     record {
-      observes = ap (λ (bus : Bus). map spec_of bus.world.nodes) c.in-Bytes.ensures.bus ∙ first.invariant.observes;
-      reported = c.in-Bytes.ensures.unreported ∙ first.invariant.reported;
+      ready = (ap (λ (bus : Bus). map spec_of bus.world.nodes) c.in-Bytes.ensures.bus ∙ first.invariant.ready.0, c.in-Bytes.ensures.unreported ∙ first.invariant.ready.1);
       served =
           calm_then (HasPut client first._piece) (IsPiece client) (HasPut client (first._piece + 1)) (snapshot (g.W.Transport.log c.args.transport.now) (g.P.Observer.observed c.args.observer.now) c.args.self.now.hub) before after
           (λ these those kept put one. more_pieces client first._piece these those before.state after.state put one)

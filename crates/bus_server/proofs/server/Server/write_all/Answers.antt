@@ -8,7 +8,7 @@ use Rattle.bus_server.proofs.Stopping.{stops_behind, whatever_fails}
 use Rattle.bus_server.proofs.server.Server.write_all.Goals as goal
 
 pub loop-client-init : goal.loop-client-init
-loop-client-init g c = record { observes = c.requires.observes; reported = c.requires.reported; served = calm_nowhere (AllShared 0) (snapshot (g.W.Transport.log c.args.transport.now) (g.P.Observer.observed c.args.observer.now) c.args.self.now.hub) (λ client within. absurd (omega (arith, within)), λ other. omega arith) }
+loop-client-init g c = record { ready = c.requires.ready; served = calm_nowhere (AllShared 0) (snapshot (g.W.Transport.log c.args.transport.now) (g.P.Observer.observed c.args.observer.now) c.args.self.now.hub) (λ client within. absurd (omega (arith, within)), λ other. omega arith) }
 
 pub loop-client-preserved : goal.loop-client-preserved
 loop-client-preserved g c =
@@ -17,8 +17,7 @@ loop-client-preserved g c =
     let before = snapshot (g.W.Transport.log first.transport) (g.P.Observer.observed first.observer) first.self.hub in
     let after_round = snapshot (g.W.Transport.log c.write.new.transport) (g.P.Observer.observed c.write.new.observer) c.write.new.self.hub in
     record {
-      observes = c.close_overflowed.ensures.observes;
-      reported = c.in_ok-close_overflowed.ensures.reported;
+      ready = c.in_ok-close_overflowed.ensures.ready;
       served =
           calm_then (AllAndOne first.client) (λ more all. (has_overflowed all first.client ≡ false) × WritesNone more) (AllShared (first.client + 1)) start after_round (snapshot (g.W.Transport.log c.close_overflowed.new.transport) (g.P.Observer.observed c.close_overflowed.new.observer) c.close_overflowed.new.self.hub)
           (λ these those kept done overflowed. one_on_time first.client these those (state_of c.write.new.self.hub) (state_of c.close_overflowed.new.self.hub) kept done overflowed)
