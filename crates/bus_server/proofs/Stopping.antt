@@ -1,6 +1,6 @@
 -- A run that a device stops.
 use Rattle.std.proofs.Common.{◌≡◌, ℕ, Bool, List, [], ◌∷◌, ◌++◌, Result, Ok, Err, refl, ap, sym, subst, ◌∙◌, append_assoc, append-nil, inl, inr}
-use Rattle.std.specs.Prelude.{IfErr, IsErrAnd, OnErr}
+use Rattle.std.specs.Prelude.{IfErr, IfOk, IsErrAnd, OnErr, OnOk}
 use Rattle.std.specs.List.{flat_map}
 use Rattle.std.proofs.lemmas.List.Concat.{flat_map-append}
 use Rattle.station_core.specs.Powered.{HasDesk}
@@ -14,7 +14,7 @@ use Rattle.bus_server.specs.ServerState.{AppliesAll, Handled, LoggedEvent, Serve
 use Rattle.bus_server.specs.Snapshots.{Snapshot}
 use Rattle.bus_server.specs.Rounds.{IsRound}
 use Rattle.bus_server.specs.Running.{HasGrown, IsEventRun, Round, RunSnapshot, RunsLogged, StartsRound, logged_in, skipped}
-use Rattle.bus_server.specs.StoppedRuns.{Begins, IsStoppedRun, Stops, StopsAt, StopsElapsing, StopsIn, StopsLogged, StopsOnTrack, after_round_failed, fails}
+use Rattle.bus_server.specs.StoppedRuns.{Begins, IsStoppedRun, Returns, Serves, Stops, StopsAt, StopsElapsing, StopsIn, StopsLogged, StopsOnTrack, after_round_failed, fails}
 use Rattle.bus_server.specs.TransportEvents.{Accepted, NonePending, PeerClosed, Polled, ReadBlocked, Received, Refused, ServerClosed, TransportEvent, WriteBlocked, Written}
 use Rattle.bus_server.proofs.Courses.{Laws, act_course, acts_course, course_more, course_polled, cut_course, nothing_done, ran_course, rounds_course, time_course}
 use Rattle.bus_server.proofs.Going.{acts_more, serves_more, wire_more}
@@ -138,6 +138,29 @@ run_stops laws headline most stop rounds last old mid new kept desk runs stops =
 pub whatever_fails : {T E P : Type 0} (r : Result T E) → P → OnErr r P
 whatever_fails (Ok value) p = tt
 whatever_fails (Err fault) p = p
+
+pub stopped : {T E : Type 0} (Holds : T → Snapshot → Snapshot → Type 0) (r : Result T E) (fault : E) (old new : Snapshot) → IsErrAnd r (λ propagated. propagated ≡ fault) → Stops old new → Returns Holds r old new
+stopped Holds (Ok value) fault old new failed stops = absurd failed
+stopped Holds (Err propagated) fault old new failed stops = stops
+
+-- What a call did, by its two outcomes.
+
+pub returned : {T E : Type 0} (Holds : T → Snapshot → Snapshot → Type 0) (r : Result T E) (old new : Snapshot) → IfOk r (λ value. Holds value old new) → OnErr r (Stops old new) → Returns Holds r old new
+returned Holds (Ok value) old new holds stops = holds
+returned Holds (Err fault) old new holds stops = stops
+
+pub if_served : {T E : Type 0} (Holds : Snapshot → Snapshot → Type 0) (r : Result T E) (old new : Snapshot) → Serves Holds r old new → OnOk r (Holds old new)
+if_served Holds (Ok value) old new did = did
+if_served Holds (Err fault) old new did = tt
+
+pub if_stopped : {T E : Type 0} (Holds : Snapshot → Snapshot → Type 0) (r : Result T E) (old new : Snapshot) → Serves Holds r old new → OnErr r (Stops old new)
+if_stopped Holds (Ok value) old new did = tt
+if_stopped Holds (Err fault) old new did = did
+
+pub serves_later : {T E : Type 0} (Holds Holds' : Snapshot → Snapshot → Type 0) (r : Result T E) (old mid new : Snapshot) → (Holds mid new → Holds' old new) → (Stops mid new → Stops old new)
+    → Serves Holds r mid new → Serves Holds' r old new
+serves_later Holds Holds' (Ok value) old mid new holds stops did = holds did
+serves_later Holds Holds' (Err fault) old mid new holds stops did = stops did
 
 pub passed_on : {T E : Type 0} (P : E → Type 0) (r : Result T E) (fault : E) → IsErrAnd r (λ propagated. propagated ≡ fault) → P fault → IfErr r P
 passed_on P (Ok value) fault same p = tt

@@ -36,6 +36,15 @@ Stops old new =
     (handled : List Handled) × Extends old.log new.log (transport_events handled)
     × Extends old.observed new.observed (observations_in handled) × StopsIn handled old.state new.state
 
+-- A call that served: what it returned holds of the moments before and after it; or the observer failed in it.
+abbrev pub Returns : {T E : Type 0} → (T → Snapshot → Snapshot → Type 0) → Result T E → (old new : Snapshot) → Type 0
+Returns Holds (Ok value) old new = Holds value old new
+Returns Holds (Err fault) old new = Stops old new
+
+-- the same of one that returns nothing
+abbrev pub Serves : {T E : Type 0} → (Snapshot → Snapshot → Type 0) → Result T E → (old new : Snapshot) → Type 0
+Serves Holds result old new = Returns (λ _. Holds) result old new
+
 -- The observer failed in turns that are due: those of some clients were run, and some of the next client's.
 abbrev pub StopsInTurns : List LoggedEvent → ServerState → ServerState → Type 0
 StopsInTurns applied old new =

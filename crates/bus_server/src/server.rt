@@ -13,7 +13,7 @@ ghost use Rattle.bus_server.specs.Reading.{IsReadNext, ReadsOne};
 ghost use Rattle.bus_server.specs.Hub.{ObservesReports};
 ghost use Rattle.bus_server.specs.Snapshots.{HasReported, ProgressesBy, Progresses, ProgressesWithoutInput, Snapshot, AcceptsAt, IsObserved, IsReady, IsReadyAfter, ObservesLayout, snapshot, state_of};
 ghost use Rattle.bus_server.specs.Rounds.{Accepts, AcceptsFirst, AcceptsSome, AllWrittenTo, IsFair, IsRound, Reads, ServesClient, ServesClients, Writes, WritesNone, refusals};
-ghost use Rattle.bus_server.specs.StoppedRuns.{Stops};
+ghost use Rattle.bus_server.specs.StoppedRuns.{Returns, Serves, Stops};
 
 use crate::CLIENTS;
 use crate::answers::{Answers, specs};
@@ -172,13 +172,9 @@ impl Server {
     ) -> Result<(), P::Fault>
         requires ready { IsReady (P.decoder_specs observer.old) self.old.hub }
         ensures ready { IsReadyAfter result (P.decoder_specs observer.new) self.new.hub }
-        ensures served { OnOk result
-            (ProgressesBy AcceptsFirst
+        ensures served { Serves (ProgressesBy AcceptsFirst) result
             (snapshot (W.log transport.old) (P.observed observer.old) self.old.hub)
-            (snapshot (W.log transport.new) (P.observed observer.new) self.new.hub)) }
-        ensures stops { OnErr result
-            (Stops (snapshot (W.log transport.old) (P.observed observer.old) self.old.hub)
-            (snapshot (W.log transport.new) (P.observed observer.new) self.new.hub)) }
+            (snapshot (W.log transport.new) (P.observed observer.new) self.new.hub) }
     {
         if !self.hub.accepts_first() {
             return Ok(());
@@ -195,13 +191,9 @@ impl Server {
     ) -> Result<(), P::Fault>
         requires ready { IsReady (P.decoder_specs observer.old) self.old.hub }
         ensures ready { IsReadyAfter result (P.decoder_specs observer.new) self.new.hub }
-        ensures served { OnOk result
-            (ProgressesBy (ServesClients self.old.hub.first_client 8)
+        ensures served { Serves (ProgressesBy (ServesClients self.old.hub.first_client 8)) result
             (snapshot (W.log transport.old) (P.observed observer.old) self.old.hub)
-            (snapshot (W.log transport.new) (P.observed observer.new) self.new.hub)) }
-        ensures stops { OnErr result
-            (Stops (snapshot (W.log transport.old) (P.observed observer.old) self.old.hub)
-            (snapshot (W.log transport.new) (P.observed observer.new) self.new.hub)) }
+            (snapshot (W.log transport.new) (P.observed observer.new) self.new.hub) }
     {
         let first = self.hub.first_client;
         for count in 0..CLIENTS {
@@ -220,13 +212,9 @@ impl Server {
         requires client { client < 8 }
         requires ready { IsReady (P.decoder_specs observer.old) self.old.hub }
         ensures ready { IsReadyAfter result (P.decoder_specs observer.new) self.new.hub }
-        ensures served { OnOk result
-            (ProgressesBy (ServesClient client)
+        ensures served { Serves (ProgressesBy (ServesClient client)) result
             (snapshot (W.log transport.old) (P.observed observer.old) self.old.hub)
-            (snapshot (W.log transport.new) (P.observed observer.new) self.new.hub)) }
-        ensures stops { OnErr result
-            (Stops (snapshot (W.log transport.old) (P.observed observer.old) self.old.hub)
-            (snapshot (W.log transport.new) (P.observed observer.new) self.new.hub)) }
+            (snapshot (W.log transport.new) (P.observed observer.new) self.new.hub) }
     {
         self.receive(client, transport, observer)?;
         self.write_all(transport, observer)
@@ -240,13 +228,9 @@ impl Server {
     ) -> Result<(), P::Fault>
         requires ready { IsReady (P.decoder_specs observer.old) self.old.hub }
         ensures ready { IsReadyAfter result (P.decoder_specs observer.new) self.new.hub }
-        ensures served { OnOk result
-            (ProgressesBy Accepts
+        ensures served { Serves (ProgressesBy Accepts) result
             (snapshot (W.log transport.old) (P.observed observer.old) self.old.hub)
-            (snapshot (W.log transport.new) (P.observed observer.new) self.new.hub)) }
-        ensures stops { OnErr result
-            (Stops (snapshot (W.log transport.old) (P.observed observer.old) self.old.hub)
-            (snapshot (W.log transport.new) (P.observed observer.new) self.new.hub)) }
+            (snapshot (W.log transport.new) (P.observed observer.new) self.new.hub) }
     {
         if self.hub.track_due.follow_message() {
             return Ok(());
@@ -268,13 +252,9 @@ impl Server {
         requires turns { has_turns_to_follow (state_of self.old.hub) ≡ false }
         requires ready { IsReady (P.decoder_specs observer.old) self.old.hub }
         ensures ready { IsReadyAfter result (P.decoder_specs observer.new) self.new.hub }
-        ensures served { IfOk result
-            (λ is_full. ProgressesWithoutInput (AcceptsSome is_full)
+        ensures served { Returns (λ is_full. ProgressesWithoutInput (AcceptsSome is_full)) result
             (snapshot (W.log transport.old) (P.observed observer.old) self.old.hub)
-            (snapshot (W.log transport.new) (P.observed observer.new) self.new.hub)) }
-        ensures stops { OnErr result
-            (Stops (snapshot (W.log transport.old) (P.observed observer.old) self.old.hub)
-            (snapshot (W.log transport.new) (P.observed observer.new) self.new.hub)) }
+            (snapshot (W.log transport.new) (P.observed observer.new) self.new.hub) }
     {
         for client in 0..CLIENTS {
             if !self.accept_at(client, transport, observer)? {
@@ -295,14 +275,9 @@ impl Server {
         requires turns { has_turns_to_follow (state_of self.old.hub) ≡ false }
         requires ready { IsReady (P.decoder_specs observer.old) self.old.hub }
         ensures ready { IsReadyAfter result (P.decoder_specs observer.new) self.new.hub }
-        ensures seats { IfOk result
-            (λ is_taken.
-            AcceptsAt client is_taken
+        ensures seats { Returns (AcceptsAt client) result
             (snapshot (W.log transport.old) (P.observed observer.old) self.old.hub)
-            (snapshot (W.log transport.new) (P.observed observer.new) self.new.hub)) }
-        ensures stops { OnErr result
-            (Stops (snapshot (W.log transport.old) (P.observed observer.old) self.old.hub)
-            (snapshot (W.log transport.new) (P.observed observer.new) self.new.hub)) }
+            (snapshot (W.log transport.new) (P.observed observer.new) self.new.hub) }
     {
         self.hub.bus.invariant_holds();
         if self.hub.bus.is_connected(client) {
@@ -326,13 +301,10 @@ impl Server {
         requires client { client < 8 }
         requires ready { IsReady (P.decoder_specs observer.old) self.old.hub }
         ensures ready { IsReadyAfter result (P.decoder_specs observer.new) self.new.hub }
-        ensures served { OnOk result
-            (ProgressesWithoutInput (λ more all. (has_overflowed all client ≡ false) × WritesNone more)
+        ensures served { Serves (ProgressesWithoutInput
+            (λ more all. (has_overflowed all client ≡ false) × WritesNone more)) result
             (snapshot (W.log transport.old) (P.observed observer.old) self.old.hub)
-            (snapshot (W.log transport.new) (P.observed observer.new) self.new.hub)) }
-        ensures stops { OnErr result
-            (Stops (snapshot (W.log transport.old) (P.observed observer.old) self.old.hub)
-            (snapshot (W.log transport.new) (P.observed observer.new) self.new.hub)) }
+            (snapshot (W.log transport.new) (P.observed observer.new) self.new.hub) }
     {
         if !self.hub.has_overflowed(client) {
             return Ok(());
@@ -353,13 +325,9 @@ impl Server {
         requires client { client < 8 }
         requires ready { IsReady (P.decoder_specs observer.old) self.old.hub }
         ensures ready { IsReadyAfter result (P.decoder_specs observer.new) self.new.hub }
-        ensures served { OnOk result
-            (ProgressesBy (Reads client)
+        ensures served { Serves (ProgressesBy (Reads client)) result
             (snapshot (W.log transport.old) (P.observed observer.old) self.old.hub)
-            (snapshot (W.log transport.new) (P.observed observer.new) self.new.hub)) }
-        ensures stops { OnErr result
-            (Stops (snapshot (W.log transport.old) (P.observed observer.old) self.old.hub)
-            (snapshot (W.log transport.new) (P.observed observer.new) self.new.hub)) }
+            (snapshot (W.log transport.new) (P.observed observer.new) self.new.hub) }
     {
         if self.hub.track_due.must_wait(client) {
             return Ok(());
@@ -384,13 +352,9 @@ impl Server {
         requires waits { waits (state_of self.old.hub) client ≡ false }
         requires ready { IsReady (P.decoder_specs observer.old) self.old.hub }
         ensures ready { IsReadyAfter result (P.decoder_specs observer.new) self.new.hub }
-        ensures served { IfOk result
-            (λ goes_on. ReadsOne client goes_on
+        ensures served { Returns (ReadsOne client) result
             (snapshot (W.log transport.old) (P.observed observer.old) self.old.hub)
-            (snapshot (W.log transport.new) (P.observed observer.new) self.new.hub)) }
-        ensures stops { OnErr result
-            (Stops (snapshot (W.log transport.old) (P.observed observer.old) self.old.hub)
-            (snapshot (W.log transport.new) (P.observed observer.new) self.new.hub)) }
+            (snapshot (W.log transport.new) (P.observed observer.new) self.new.hub) }
     {
         let mut buf = [0];
         match transport.read(client, &mut buf) {
@@ -440,13 +404,10 @@ impl Server {
     ) -> Result<(), P::Fault>
         requires ready { IsReady (P.decoder_specs observer.old) self.old.hub }
         ensures ready { IsReadyAfter result (P.decoder_specs observer.new) self.new.hub }
-        ensures served { OnOk result
-            (ProgressesWithoutInput (λ more all. AllWrittenTo 8 more all × IsFair more)
+        ensures served { Serves (ProgressesWithoutInput
+            (λ more all. AllWrittenTo 8 more all × IsFair more)) result
             (snapshot (W.log transport.old) (P.observed observer.old) self.old.hub)
-            (snapshot (W.log transport.new) (P.observed observer.new) self.new.hub)) }
-        ensures stops { OnErr result
-            (Stops (snapshot (W.log transport.old) (P.observed observer.old) self.old.hub)
-            (snapshot (W.log transport.new) (P.observed observer.new) self.new.hub)) }
+            (snapshot (W.log transport.new) (P.observed observer.new) self.new.hub) }
     {
         for client in 0..CLIENTS {
             self.write(client, transport, observer)?;
@@ -465,13 +426,9 @@ impl Server {
         requires client { client < 8 }
         requires ready { IsReady (P.decoder_specs observer.old) self.old.hub }
         ensures ready { IsReadyAfter result (P.decoder_specs observer.new) self.new.hub }
-        ensures served { OnOk result
-            (ProgressesWithoutInput (Writes client)
+        ensures served { Serves (ProgressesWithoutInput (Writes client)) result
             (snapshot (W.log transport.old) (P.observed observer.old) self.old.hub)
-            (snapshot (W.log transport.new) (P.observed observer.new) self.new.hub)) }
-        ensures stops { OnErr result
-            (Stops (snapshot (W.log transport.old) (P.observed observer.old) self.old.hub)
-            (snapshot (W.log transport.new) (P.observed observer.new) self.new.hub)) }
+            (snapshot (W.log transport.new) (P.observed observer.new) self.new.hub) }
     {
         for _piece in 0..MAX_WRITES {
             match self.hub.write(client, transport) {

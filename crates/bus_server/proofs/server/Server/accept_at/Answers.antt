@@ -6,7 +6,7 @@ use Rattle.bus_server.specs.TransportEvents.{Accepted}
 use Rattle.bus_server.proofs.Going.{calm_nowhere, goes_one}
 use Rattle.bus_server.specs.ServerState.{with_backlog}
 use Rattle.bus_server.proofs.Keeping.{keeps_backlog, more_backlog, joined_keeps, joined_places, only_joins}
-use Rattle.bus_server.proofs.Stopping.{stops_first, whatever_fails}
+use Rattle.bus_server.proofs.Stopping.{stops_first, stopped}
 use Rattle.bus_server.proofs.server.Server.accept_at.Goals as goal
 
 pub returns-then-is_connected-clause-seats : goal.returns-then-is_connected-clause-seats
@@ -28,8 +28,8 @@ returns-clause-seats g c =
     (snapshot (g.W.Transport.log c.args.transport.now) (g.P.Observer.observed c.args.observer.now) c.args.self.now.hub) (snapshot (g.W.Transport.log c.accept.new.self) (g.P.Observer.observed c.apply.new.observer) c.apply.new.self.hub) c.if-not-accept.ensures does.1 (c.requires.turns, does.2)
     (keeps_backlog (Accepted client ∷ []) old new (joined_keeps client joined.0 (with_backlog old) new place c.args.self.now.hub.within_capacity joined.1), (refl, more_backlog client old new (joined_places client joined.0 (with_backlog old) new line joined.1)))
 
-pub returns-in_err-apply-clause-stops : goal.returns-in_err-apply-clause-stops
-returns-in_err-apply-clause-stops g c =
+pub returns-in_err-apply-clause-seats : goal.returns-in_err-apply-clause-seats
+returns-in_err-apply-clause-seats g c =
     let begun = c.apply.ensures.happened in
-    whatever_fails c.from_residual.result
+    stopped _ c.from_residual.result _ _ _ c.from_residual.ensures.1
     (stops_first (Accepted c.args.client) begun.0 (snapshot (g.W.Transport.log c.args.transport.now) (g.P.Observer.observed c.args.observer.now) c.args.self.now.hub) (snapshot (g.W.Transport.log c.accept.new.self) (g.P.Observer.observed c.apply.new.observer) c.apply.new.self.hub) c.if-not-accept.ensures begun.1 (c.requires.turns, begun.2))

@@ -4,7 +4,7 @@ use Rattle.bus_server.specs.Pace.{follows_messages}
 use Rattle.bus_server.specs.ServerState.{has_turns_to_follow}
 use Rattle.bus_server.specs.Snapshots.{state_of}
 use Rattle.bus_server.proofs.Going.{grows_none}
-use Rattle.bus_server.proofs.Stopping.{whatever_fails}
+use Rattle.bus_server.proofs.Stopping.{stopped}
 use Rattle.bus_server.proofs.server.Server.accept_first.Goals as goal
 
 pub returns-then-not-accepts_first-clause-served : goal.returns-then-not-accepts_first-clause-served
@@ -29,5 +29,5 @@ returns-clause-served g c =
     let some = c.in_ok-accept_some.ensures.served in
     (some.0, some.1, some.2, inr (sym c.accepts_first.ensures ∙ c.if-not-accepts_first.false, c.in_ok-accept_some.field-0, some.3, some.4.0.unread, some.4.1))
 
-pub returns-in_err-accept_some-clause-stops : goal.returns-in_err-accept_some-clause-stops
-returns-in_err-accept_some-clause-stops g c = whatever_fails c.from_residual.result c.in_err-accept_some.ensures.stops
+pub returns-in_err-accept_some-clause-served : goal.returns-in_err-accept_some-clause-served
+returns-in_err-accept_some-clause-served g c = stopped _ c.from_residual.result _ _ _ c.from_residual.ensures.1 c.in_err-accept_some.ensures.served

@@ -3,7 +3,7 @@ use Rattle.bus_server.specs.Snapshots.{snapshot}
 use Rattle.bus_server.specs.Rounds.{AcceptsPending, AcceptsSome}
 use Rattle.bus_server.proofs.Going.{calm_then, grows_none}
 use Rattle.bus_server.proofs.Rounding.{lets_in_behind, turns_others_away}
-use Rattle.bus_server.proofs.Stopping.{whatever_fails}
+use Rattle.bus_server.proofs.Stopping.{stopped}
 use Rattle.bus_server.proofs.server.Server.accept_pending.Goals as goal
 
 pub returns-then-follow_message-clause-served : goal.returns-then-follow_message-clause-served
@@ -31,5 +31,5 @@ returns-clause-served g c =
     (turns_others_away c.reject_pending-refused.result before after some.4.1.1 c.reject_pending-refused.ensures (grows_none (g.P.Observer.observed c.accept_some.new.observer)) c.note_refused.ensures.state) in
     (all.0, all.1, all.2, inr (sym c.follow_message.ensures ∙ c.if-follow_message.false, all.3, all.4.0.unread, all.4.1))
 
-pub returns-in_err-accept_some-clause-stops : goal.returns-in_err-accept_some-clause-stops
-returns-in_err-accept_some-clause-stops g c = whatever_fails c.from_residual.result c.in_err-accept_some.ensures.stops
+pub returns-in_err-accept_some-clause-served : goal.returns-in_err-accept_some-clause-served
+returns-in_err-accept_some-clause-served g c = stopped _ c.from_residual.result _ _ _ c.from_residual.ensures.1 c.in_err-accept_some.ensures.served

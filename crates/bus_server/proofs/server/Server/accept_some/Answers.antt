@@ -7,7 +7,7 @@ use Rattle.bus_server.specs.Rounds.{HasMoreClients, AcceptsSome, is_accept}
 use Rattle.bus_server.specs.ServerState.{is_connected}
 use Rattle.bus_server.proofs.Going.{calm_nowhere, calm_then}
 use Rattle.bus_server.proofs.Rounding.{HasAccepted, accepted_more, nobody_more, nobody_waits}
-use Rattle.bus_server.proofs.Stopping.{stops_behind, whatever_fails}
+use Rattle.bus_server.proofs.Stopping.{stops_behind, stopped}
 use Rattle.bus_server.proofs.server.Server.accept_some.Goals as goal
 
 pub loop-client-init : goal.loop-client-init
@@ -48,9 +48,9 @@ returns-clause-served g c =
     λ other within. let before : other < first.client = omega (arith, within, c.loop-client-test.false) in so_far.4.1.1 other before in
     (so_far.0, so_far.1, so_far.2, so_far.3, (so_far.4.0, (so_far.4.1.0, taken)))
 
-pub returns-in_err-accept_at-clause-stops : goal.returns-in_err-accept_at-clause-stops
-returns-in_err-accept_at-clause-stops g c =
+pub returns-in_err-accept_at-clause-served : goal.returns-in_err-accept_at-clause-served
+returns-in_err-accept_at-clause-served g c =
     let first = c.loop-client in
     let so_far = first.invariant.served in
-    whatever_fails c.from_residual.result
-    (stops_behind so_far.0 (snapshot (g.W.Transport.log c.args.transport.now) (g.P.Observer.observed c.args.observer.now) c.args.self.now.hub) (snapshot (g.W.Transport.log first.transport) (g.P.Observer.observed first.observer) first.self.hub) (snapshot (g.W.Transport.log c.accept_at.new.transport) (g.P.Observer.observed c.accept_at.new.observer) c.accept_at.new.self.hub) so_far.1 so_far.2 so_far.3 c.in_err-accept_at.ensures.stops)
+    stopped _ c.from_residual.result _ _ _ c.from_residual.ensures.1
+    (stops_behind so_far.0 (snapshot (g.W.Transport.log c.args.transport.now) (g.P.Observer.observed c.args.observer.now) c.args.self.now.hub) (snapshot (g.W.Transport.log first.transport) (g.P.Observer.observed first.observer) first.self.hub) (snapshot (g.W.Transport.log c.accept_at.new.transport) (g.P.Observer.observed c.accept_at.new.observer) c.accept_at.new.self.hub) so_far.1 so_far.2 so_far.3 c.in_err-accept_at.ensures.seats)

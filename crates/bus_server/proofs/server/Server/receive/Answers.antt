@@ -2,7 +2,7 @@ use Rattle.std.proofs.Common.{◌≡◌, ◌≤◌, ◌∷◌, ◌++◌, [], ari
 use Rattle.bus_server.specs.Snapshots.{snapshot, state_of}
 use Rattle.bus_server.proofs.Going.{acts_more, grows_none, wire_more}
 use Rattle.bus_server.proofs.Rounding.{reads_on_apply, reads_on_more}
-use Rattle.bus_server.proofs.Stopping.{stops_behind, whatever_fails}
+use Rattle.bus_server.proofs.Stopping.{stops_behind, stopped}
 use Rattle.bus_server.proofs.server.Server.receive.Goals as goal
 
 pub returns-then-must_wait-clause-served : goal.returns-then-must_wait-clause-served
@@ -60,10 +60,10 @@ returns-clause-served g c =
     let all : length so_far.0 ≡ 400 = omega (arith, so_far.1, first.auto._byte-end, c.loop-byte-test.false) in
     (so_far.0, so_far.2, so_far.3, inr (inl (sym c.must_wait.ensures ∙ c.if-must_wait.false, so_far.4, all)))
 
-pub returns-in_err-receive_byte-clause-stops : goal.returns-in_err-receive_byte-clause-stops
-returns-in_err-receive_byte-clause-stops g c =
+pub returns-in_err-receive_byte-clause-served : goal.returns-in_err-receive_byte-clause-served
+returns-in_err-receive_byte-clause-served g c =
     let first = c.loop-byte in
     let so_far = first.invariant.served in
     let applies = reads_on_apply c.args.client so_far.0 (state_of c.args.self.now.hub) (state_of first.self.hub) so_far.4 in
-    whatever_fails c.from_residual.result
-    (stops_behind so_far.0 (snapshot (g.W.Transport.log c.args.transport.now) (g.P.Observer.observed c.args.observer.now) c.args.self.now.hub) (snapshot (g.W.Transport.log first.transport) (g.P.Observer.observed first.observer) first.self.hub) (snapshot (g.W.Transport.log c.receive_byte.new.transport) (g.P.Observer.observed c.receive_byte.new.observer) c.receive_byte.new.self.hub) so_far.2 so_far.3 applies c.in_err-receive_byte.ensures.stops)
+    stopped _ c.from_residual.result _ _ _ c.from_residual.ensures.1
+    (stops_behind so_far.0 (snapshot (g.W.Transport.log c.args.transport.now) (g.P.Observer.observed c.args.observer.now) c.args.self.now.hub) (snapshot (g.W.Transport.log first.transport) (g.P.Observer.observed first.observer) first.self.hub) (snapshot (g.W.Transport.log c.receive_byte.new.transport) (g.P.Observer.observed c.receive_byte.new.observer) c.receive_byte.new.self.hub) so_far.2 so_far.3 applies c.in_err-receive_byte.ensures.served)

@@ -7,7 +7,7 @@ use Rattle.bus_server.specs.Rounds.{Writes}
 use Rattle.bus_server.specs.ServerState.{RunsEventWithReports, ServerState}
 use Rattle.bus_server.proofs.Going.{calm_nowhere, calm_then, grows_none}
 use Rattle.bus_server.proofs.Rounding.{HasPut, IsPiece, calm_weaker, more_pieces, put_four, put_then, wrote_later, wrote_one, wrote_to_none}
-use Rattle.bus_server.proofs.Stopping.{stops_behind, stops_first, whatever_fails}
+use Rattle.bus_server.proofs.Stopping.{stops_behind, stops_first, stopped}
 use Rattle.bus_server.specs.TransportEvents.{PeerClosed}
 use Rattle.bus_server.proofs.server.Server.write.Goals as goal
 
@@ -54,8 +54,8 @@ returns-clause-served g c =
     (λ more put. put_four c.args.client first._piece more (state_of first.self.hub) (omega (arith, first.auto._piece-end, c.loop-piece-test.false)) put)
     first.invariant.served
 
-pub returns-in_err-apply-in-Closed-clause-stops : goal.returns-in_err-apply-in-Closed-clause-stops
-returns-in_err-apply-in-Closed-clause-stops g c =
+pub returns-in_err-apply-in-Closed-clause-served : goal.returns-in_err-apply-in-Closed-clause-served
+returns-in_err-apply-in-Closed-clause-served g c =
     let first = c.loop-piece in
     let client = c.args.client in
     let wrote = c.in-Closed.ensures.wrote in
@@ -63,6 +63,6 @@ returns-in_err-apply-in-Closed-clause-stops g c =
     let before = snapshot (g.W.Transport.log first.transport) (g.P.Observer.observed first.observer) first.self.hub in
     let after = snapshot (g.W.Transport.log c.write.new.transport) (g.P.Observer.observed c.apply.new.observer) c.apply.new.self.hub in
     let begun = c.apply.ensures.happened in
-    whatever_fails c.from_residual.result
+    stopped _ c.from_residual.result _ _ _ c.from_residual.ensures.1
     (stops_behind so_far.0 (snapshot (g.W.Transport.log c.args.transport.now) (g.P.Observer.observed c.args.observer.now) c.args.self.now.hub) before after so_far.1 so_far.2 so_far.3
     (stops_first (PeerClosed client) begun.0 before after wrote.0 begun.1 (subst (λ (old : ServerState). RunsEventWithReports (Disconnects client) begun.0 old (state_of c.apply.new.self.hub)) wrote.1 begun.2)))

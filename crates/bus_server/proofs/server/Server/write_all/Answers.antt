@@ -4,7 +4,7 @@ use Rattle.bus_server.specs.Rounds.{AllWrittenTo, IsFair, Writes, WritesNone}
 use Rattle.bus_server.specs.ServerState.{has_overflowed}
 use Rattle.bus_server.proofs.Going.{calm_nowhere, calm_then}
 use Rattle.bus_server.proofs.Rounding.{AllAndOne, AllShared, all_fair, calm_weaker, one_on_time, one_written}
-use Rattle.bus_server.proofs.Stopping.{stops_behind, whatever_fails}
+use Rattle.bus_server.proofs.Stopping.{stops_behind, stopped}
 use Rattle.bus_server.proofs.server.Server.write_all.Goals as goal
 
 pub loop-client-init : goal.loop-client-init
@@ -27,23 +27,23 @@ loop-client-preserved g c =
           c.in_ok-close_overflowed.ensures.served;
     }
 
-pub returns-in_err-write-clause-stops : goal.returns-in_err-write-clause-stops
-returns-in_err-write-clause-stops g c =
+pub returns-in_err-write-clause-served : goal.returns-in_err-write-clause-served
+returns-in_err-write-clause-served g c =
     let first = c.loop-client in
     let so_far = first.invariant.served in
-    whatever_fails c.from_residual.result
-    (stops_behind so_far.0 (snapshot (g.W.Transport.log c.args.transport.now) (g.P.Observer.observed c.args.observer.now) c.args.self.now.hub) (snapshot (g.W.Transport.log first.transport) (g.P.Observer.observed first.observer) first.self.hub) (snapshot (g.W.Transport.log c.write.new.transport) (g.P.Observer.observed c.write.new.observer) c.write.new.self.hub) so_far.1 so_far.2 so_far.3 c.in_err-write.ensures.stops)
+    stopped _ c.from_residual.result _ _ _ c.from_residual.ensures.1
+    (stops_behind so_far.0 (snapshot (g.W.Transport.log c.args.transport.now) (g.P.Observer.observed c.args.observer.now) c.args.self.now.hub) (snapshot (g.W.Transport.log first.transport) (g.P.Observer.observed first.observer) first.self.hub) (snapshot (g.W.Transport.log c.write.new.transport) (g.P.Observer.observed c.write.new.observer) c.write.new.self.hub) so_far.1 so_far.2 so_far.3 c.in_err-write.ensures.served)
 
-pub returns-in_err-close_overflowed-clause-stops : goal.returns-in_err-close_overflowed-clause-stops
-returns-in_err-close_overflowed-clause-stops g c =
+pub returns-in_err-close_overflowed-clause-served : goal.returns-in_err-close_overflowed-clause-served
+returns-in_err-close_overflowed-clause-served g c =
     let first = c.loop-client in
     let so_far = first.invariant.served in
     let wrote = c.in_ok-write.ensures.served in
     let mid = (snapshot (g.W.Transport.log c.write.new.transport) (g.P.Observer.observed c.write.new.observer) c.write.new.self.hub) in
     let after = (snapshot (g.W.Transport.log c.close_overflowed.new.transport) (g.P.Observer.observed c.close_overflowed.new.observer) c.close_overflowed.new.self.hub) in
-    whatever_fails c.from_residual-in_err-close_overflowed.result
+    stopped _ c.from_residual-in_err-close_overflowed.result _ _ _ c.from_residual-in_err-close_overflowed.ensures.1
     (stops_behind so_far.0 (snapshot (g.W.Transport.log c.args.transport.now) (g.P.Observer.observed c.args.observer.now) c.args.self.now.hub) (snapshot (g.W.Transport.log first.transport) (g.P.Observer.observed first.observer) first.self.hub) after so_far.1 so_far.2 so_far.3
-    (stops_behind wrote.0 (snapshot (g.W.Transport.log first.transport) (g.P.Observer.observed first.observer) first.self.hub) mid after wrote.1 wrote.2 wrote.3 c.in_err-close_overflowed.ensures.stops))
+    (stops_behind wrote.0 (snapshot (g.W.Transport.log first.transport) (g.P.Observer.observed first.observer) first.self.hub) mid after wrote.1 wrote.2 wrote.3 c.in_err-close_overflowed.ensures.served))
 
 pub returns-clause-served : goal.returns-clause-served
 returns-clause-served g c =
