@@ -3,7 +3,7 @@ ghost use Rattle.std.specs.Prelude.{◌≡◌, ◌<◌, ◌∷◌, [], ◌++◌,
 ghost use Rattle.std.specs.List.{flat_map};
 ghost use Rattle.bus_server.specs.declared.pace.Pace.TheVariants.{RealTime};
 ghost use Rattle.bus.specs.Log.{Extends};
-ghost use Rattle.bus_server.specs.Snapshots.{HasReported, ObservesLayout, state_of};
+ghost use Rattle.bus_server.specs.Snapshots.{HasReported, IsReady, IsReadyAfter, ObservesLayout, state_of};
 ghost use Rattle.bus_server.specs.ServerState.{LoggedEvent, longest_wait, observations_of};
 ghost use Rattle.bus_server.specs.Pace.{track_time};
 ghost use Rattle.bus_server.specs.Running.{IsRun, Round, RunsLogged, skipped, run_snapshot};
@@ -94,15 +94,13 @@ impl Server {
         after_round: &mut A,
         most: u64,
     ) -> Result<(), Stop<W::Fault, C::Fault, P::Fault, A::Fault>>
-        requires observes { ObservesLayout (P.decoder_specs observer.old) self.old.hub }
-        requires reported { HasReported self.old.hub }
+        requires ready { IsReady (P.decoder_specs observer.old) self.old.hub }
         requires fewer { self.old.hub.disconnected < most }
         requires so_far { ComesTo most (A.begun after_round.old)
             (run_snapshot (W.log transport.old) (C.readings clock.old) (P.observed observer.old)
             (A.shown after_round.old) self.old.hub) }
         ensures begun { A.begun after_round.new ≡ A.begun after_round.old }
-        ensures observes { ObservesLayout (P.decoder_specs observer.new) self.new.hub }
-        ensures reported { OnOk result (HasReported self.new.hub) }
+        ensures ready { IsReadyAfter result (P.decoder_specs observer.new) self.new.hub }
         ensures round { OnOk result
             ((round : Round)
             × RunsLogged most (round ∷ [])
@@ -155,10 +153,8 @@ impl Server {
         clock: &mut C,
         observer: &mut P,
     ) -> Result<(), Stop<W::Fault, C::Fault, P::Fault, A::Fault>>
-        requires observes { ObservesLayout (P.decoder_specs observer.old) self.old.hub }
-        requires reported { HasReported self.old.hub }
-        ensures observes { ObservesLayout (P.decoder_specs observer.new) self.new.hub }
-        ensures reported { OnOk result (HasReported self.new.hub) }
+        requires ready { IsReady (P.decoder_specs observer.old) self.old.hub }
+        ensures ready { IsReadyAfter result (P.decoder_specs observer.new) self.new.hub }
         ensures runs { OnOk result
             ((readings : List ℕ) × (elapsing : List LoggedEvent)
             × Extends (C.readings clock.old) (C.readings clock.new) readings
@@ -197,10 +193,8 @@ impl Server {
         clock: &mut C,
         observer: &mut P,
     ) -> Result<(), Stop<W::Fault, C::Fault, P::Fault, A::Fault>>
-        requires observes { ObservesLayout (P.decoder_specs observer.old) self.old.hub }
-        requires reported { HasReported self.old.hub }
-        ensures observes { ObservesLayout (P.decoder_specs observer.new) self.new.hub }
-        ensures reported { HasReported self.new.hub }
+        requires ready { IsReady (P.decoder_specs observer.old) self.old.hub }
+        ensures ready { IsReady (P.decoder_specs observer.new) self.new.hub }
         ensures takes { OnOk result
             ((readings : List ℕ) × (owed : ℕ)
             × Extends (C.readings clock.old) (C.readings clock.new) readings

@@ -15,8 +15,8 @@ loop-round-preserved g c =
     let so_far = c.loop-round.invariant.rounds in
     let one = c.in_ok-run_round.ensures.round in
     record {
-      observes = c.run_round.ensures.observes;
-      reported = c.in_ok-run_round.ensures.reported;
+      observes = c.in_ok-run_round.ensures.ready.0;
+      reported = c.in_ok-run_round.ensures.ready.1;
       begun = c.run_round.ensures.begun ∙ c.loop-round.invariant.begun;
       after_round = c.in_ok-run_round.ensures.after_round ∙ c.loop-round.invariant.after_round;
       rounds = (
