@@ -14,7 +14,7 @@ use Rattle.bus_server.specs.ServerState.{AppliesAll, Handled, LoggedEvent, Serve
 use Rattle.bus_server.specs.Snapshots.{Snapshot}
 use Rattle.bus_server.specs.Rounds.{IsRound}
 use Rattle.bus_server.specs.Running.{HasGrown, IsEventRun, Round, RunSnapshot, RunsLogged, StartsRound, logged_in, skipped}
-use Rattle.bus_server.specs.StoppedRuns.{Begins, IsStoppedRun, Returns, Serves, Stops, StopsAt, StopsElapsing, StopsIn, StopsLogged, StopsOnTrack, after_round_failed, fails}
+use Rattle.bus_server.specs.StoppedRuns.{Begins, IsStoppedRun, Returns, Serves, ServesRound, Stops, StopsAt, StopsElapsing, StopsIn, StopsLogged, StopsOnTrack, after_round_failed, fails}
 use Rattle.bus_server.specs.TransportEvents.{Accepted, NonePending, PeerClosed, Polled, ReadBlocked, Received, Refused, ServerClosed, TransportEvent, WriteBlocked, Written}
 use Rattle.bus_server.proofs.Courses.{Laws, act_course, acts_course, course_more, course_polled, cut_course, nothing_done, ran_course, rounds_course, time_course}
 use Rattle.bus_server.proofs.Going.{acts_more, serves_more, wire_more}
@@ -165,6 +165,11 @@ serves_later Holds Holds' (Err fault) old mid new holds stops did = stops did
 pub passed_on : {T E : Type 0} (P : E → Type 0) (r : Result T E) (fault : E) → IsErrAnd r (λ propagated. propagated ≡ fault) → P fault → IfErr r P
 passed_on P (Ok value) fault same p = tt
 passed_on P (Err propagated) fault same p = subst P (sym same) p
+
+pub round_stopped : {U T C O A : Type 0} (most : ℕ) (r : Result U (Stop T C O A)) (stop : Stop T C O A) (old new : RunSnapshot) → IsErrAnd r (λ propagated. propagated ≡ stop)
+    → (last : Round) × StopsLogged most stop last old new → ServesRound most r old new
+round_stopped most (Ok value) stop old new same h = absurd same
+round_stopped most (Err propagated) stop old new same h = subst (λ (s : Stop _ _ _ _). (last : Round) × StopsLogged most s last old new) (sym same) h
 
 pub failed_on : {U T C O A : Type 0} (r : Result U (Stop T C O A)) (stop : Stop T C O A) (before now : Bool) → IsErrAnd r (λ propagated. propagated ≡ stop) → now ≡ fails stop before → now ≡ after_round_failed r before
 failed_on (Ok value) stop before now same h = absurd same

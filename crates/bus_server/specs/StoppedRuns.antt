@@ -10,7 +10,7 @@ use Rattle.bus_server.specs.declared.pace.Pace.TheVariants.{AfterMessages, RealT
 use Rattle.bus_server.specs.ServerState.{Applies, AppliesAll, Handled, LoggedEvent, ServerState, events_of, has_overflowed, longest_wait, observations_in, round_start, transport_events}
 use Rattle.bus_server.specs.Snapshots.{Snapshot}
 use Rattle.bus_server.specs.Rounds.{IsRound}
-use Rattle.bus_server.specs.Running.{HasGrown, IsEventRun, Round, RunsRounds, RunSnapshot, StartsRound, logged_in, shown}
+use Rattle.bus_server.specs.Running.{HasGrown, IsEventRun, Round, RunsLogged, RunsRounds, RunSnapshot, StartsRound, logged_in, shown}
 use Rattle.bus_server.specs.Track.{IsTimeDue, RunsSteps, RunsTrack, RunsTurns, is_piece, is_turn, turns_left, with_time_due}
 use Rattle.bus_server.specs.TransportEvents.{Accepted, PeerClosed, Received, ServerClosed, TransportEvent}
 
@@ -98,6 +98,11 @@ StopsAt (AfterRound fault) last old new = StartsRound last old × StopsAfterRoun
 abbrev pub StopsLogged : {T C O A : Type 0} → (most : ℕ) → Stop T C O A → (last : Round) → (old new : RunSnapshot) → Type 0
 StopsLogged most stop last old new =
     HasGrown (last ∷ []) old new × (old.state.disconnected < most) × StopsAt stop last old.state new.state
+
+-- A call that served one round: a whole one, or the last, which a device stopped.
+abbrev pub ServesRound : {U T C O A : Type 0} → (most : ℕ) → Result U (Stop T C O A) → (old new : RunSnapshot) → Type 0
+ServesRound most (Ok done) old new = (round : Round) × RunsLogged most (round ∷ []) old new
+ServesRound most (Err stop) old new = (last : Round) × StopsLogged most stop last old new
 
 -- A run that a device stopped: whole rounds, and the one that it stopped. The logs grew by these, so that all that was read was
 -- applied; their events, in order, are what the bus ran; and the headline in time holds of these events.

@@ -6,7 +6,7 @@ ghost use Rattle.bus.specs.Log.{Extends};
 ghost use Rattle.bus_server.specs.Snapshots.{HasReported, IsReady, IsReadyAfter, ObservesLayout, state_of};
 ghost use Rattle.bus_server.specs.ServerState.{LoggedEvent, longest_wait, observations_of};
 ghost use Rattle.bus_server.specs.Pace.{track_time};
-ghost use Rattle.bus_server.specs.Running.{IsRun, Round, RunsLogged, skipped, run_snapshot};
+ghost use Rattle.bus_server.specs.Running.{IsRun, run_snapshot, skipped};
 ghost use Rattle.bus_server.specs.Track.{IsTimeDue, RunsTrack, with_time_due};
 
 use crate::after_round::AfterRound;
@@ -35,7 +35,7 @@ pub enum Stop<T, C, O, A> {
 
 impl Server {
     ghost use Rattle.bus_server.specs.SoFar.{ComesTo, IsBeginning};
-    ghost use Rattle.bus_server.specs.StoppedRuns.{IsStoppedRun, after_round_failed, fails, StopsLogged, StopsOnTrack};
+    ghost use Rattle.bus_server.specs.StoppedRuns.{IsStoppedRun, ServesRound, StopsOnTrack, after_round_failed, fails};
 
     /// Serves until `most` clients have disconnected since the server was new, or for 2 ^ 64 - 1 rounds.
     ///
@@ -101,20 +101,11 @@ impl Server {
             (A.shown after_round.old) self.old.hub) }
         ensures begun { A.begun after_round.new ≡ A.begun after_round.old }
         ensures ready { IsReadyAfter result (P.decoder_specs observer.new) self.new.hub }
-        ensures round { OnOk result
-            ((round : Round)
-            × RunsLogged most (round ∷ [])
+        ensures round { ServesRound most result
             (run_snapshot (W.log transport.old) (C.readings clock.old) (P.observed observer.old)
             (A.shown after_round.old) self.old.hub)
             (run_snapshot (W.log transport.new) (C.readings clock.new) (P.observed observer.new)
-            (A.shown after_round.new) self.new.hub)) }
-        ensures stopped { IfErr result
-            (λ stop. (last : Round)
-            × StopsLogged most stop last
-            (run_snapshot (W.log transport.old) (C.readings clock.old) (P.observed observer.old)
-            (A.shown after_round.old) self.old.hub)
-            (run_snapshot (W.log transport.new) (C.readings clock.new) (P.observed observer.new)
-            (A.shown after_round.new) self.new.hub)) }
+            (A.shown after_round.new) self.new.hub) }
         ensures after_round { A.failed after_round.new
             ≡ after_round_failed result (A.failed after_round.old) }
     {

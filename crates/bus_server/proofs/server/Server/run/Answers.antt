@@ -50,7 +50,7 @@ returns-in_err-run_round-clause-stopped g c =
     let laws : Laws = record { kept = c.events_are_the_layout.ensures.kept; more = c.events_are_the_layout.ensures.more; none = c.events_add_up.ensures.none } in
     let so_far = c.loop-round.invariant.rounds in
     let stop = c.in_err-run_round.field-0.0 in
-    let one = c.in_err-run_round.ensures.stopped in
+    let one = c.in_err-run_round.ensures.round in
     let start = (run_snapshot (g.W.Transport.log c.args.transport.now) (g.C.TimeSource.readings c.args.clock.now) (g.P.Observer.observed c.args.observer.now) (g.A.AfterRound.shown c.args.after_round.now) c.args.self.now.hub) in
     let mid = (run_snapshot (g.W.Transport.log c.loop-round.transport) (g.C.TimeSource.readings c.loop-round.clock) (g.P.Observer.observed c.loop-round.observer) (g.A.AfterRound.shown c.loop-round.after_round) c.loop-round.self.hub) in
     let end = (run_snapshot (g.W.Transport.log c.run_round.new.transport) (g.C.TimeSource.readings c.run_round.new.clock) (g.P.Observer.observed c.run_round.new.observer) (g.A.AfterRound.shown c.run_round.new.after_round) c.run_round.new.self.hub) in

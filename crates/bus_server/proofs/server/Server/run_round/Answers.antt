@@ -8,10 +8,10 @@ use Rattle.bus_server.specs.ServerState.{ServerState, answer_to, longest_wait, t
 use Rattle.bus_server.specs.TransportEvents.{Polled, TransportEvent}
 use Rattle.bus_server.proofs.Going.{grows_more, grows_none, shown_of}
 use Rattle.bus_server.proofs.SoFar.{is_so_far, lent_is}
-use Rattle.bus_server.proofs.Stopping.{failed_on, one_grown, passed_on, stops_on_track}
+use Rattle.bus_server.proofs.Stopping.{failed_on, one_grown, round_stopped, stops_on_track}
 use Rattle.bus_server.specs.Observations.{Observation}
 use Rattle.bus_server.specs.Rounds.{IsRound}
-use Rattle.bus_server.specs.StoppedRuns.{StopsIn, StopsLogged}
+use Rattle.bus_server.specs.StoppedRuns.{StopsIn}
 use Rattle.bus_server.proofs.server.Server.run_round.Goals as goal
 
 pub returns-in-Ok-clause-round : goal.returns-in-Ok-clause-round
@@ -68,8 +68,8 @@ after_round-requires-clause-so_far g c =
     (grows_more (observed c.args.observer.now) (observed c.round.new.observer) (observed c.run_track.new.observer) (observations_in served.0) later served.2 ran.3))
     (lent_is c.world.result.now c.run_track.new.self.hub.bus.world (option_copied c.railway.result) c.run_track.new.self.hub.sensors.railway c.world.ensures c.railway.ensures)
 
-pub returns-in-Err-clause-stopped : goal.returns-in-Err-clause-stopped
-returns-in-Err-clause-stopped g c =
+pub returns-in-Err-clause-round : goal.returns-in-Err-clause-round
+returns-in-Err-clause-round g c =
     let log = g.W.Transport.log in
     let longest = longest_wait (state_of c.args.self.now.hub) in
     let last : Round = record { longest = longest; answers = λ client. []; handled = []; readings = []; elapsing = []; shown = [] } in
@@ -83,8 +83,8 @@ returns-in-Err-clause-stopped g c =
       ),
     )
 
-pub returns-in-Err-round-clause-stopped : goal.returns-in-Err-round-clause-stopped
-returns-in-Err-round-clause-stopped g c =
+pub returns-in-Err-round-clause-round : goal.returns-in-Err-round-clause-round
+returns-in-Err-round-clause-round g c =
     let log = g.W.Transport.log in
     let observed = g.P.Observer.observed in
     let readings = g.C.TimeSource.readings in
@@ -106,8 +106,8 @@ returns-in-Err-round-clause-stopped g c =
       ),
     )
 
-pub returns-in_err-run_track-clause-stopped : goal.returns-in_err-run_track-clause-stopped
-returns-in_err-run_track-clause-stopped g c =
+pub returns-in_err-run_track-clause-round : goal.returns-in_err-run_track-clause-round
+returns-in_err-run_track-clause-round g c =
     let log = g.W.Transport.log in
     let observed = g.P.Observer.observed in
     let readings = g.C.TimeSource.readings in
@@ -122,7 +122,7 @@ returns-in_err-run_track-clause-stopped g c =
     let last : Round = record { longest = longest; answers = answer_to (state_of c.args.self.now.hub); handled = served.0; readings = stops.0; elapsing = stops.1; shown = [] } in
     let start = (run_snapshot (g.W.Transport.log c.args.transport.now) (g.C.TimeSource.readings c.args.clock.now) (g.P.Observer.observed c.args.observer.now) (g.A.AfterRound.shown c.args.after_round.now) c.args.self.now.hub) in
     let end = (run_snapshot (g.W.Transport.log c.round.new.transport) (g.C.TimeSource.readings c.run_track.new.clock) (g.P.Observer.observed c.run_track.new.observer) (g.A.AfterRound.shown c.args.after_round.now) c.run_track.new.self.hub) in
-    passed_on (λ stop. (last : Round) × StopsLogged c.args.most stop last start end) c.from_residual.result stop c.from_residual.ensures.1 (
+    round_stopped c.args.most c.from_residual.result stop start end c.from_residual.ensures.1 (
       last,
       (
         one_grown last start end
@@ -135,8 +135,8 @@ returns-in_err-run_track-clause-stopped g c =
       ),
     )
 
-pub returns-in-Err-after_round-clause-stopped : goal.returns-in-Err-after_round-clause-stopped
-returns-in-Err-after_round-clause-stopped g c =
+pub returns-in-Err-after_round-clause-round : goal.returns-in-Err-after_round-clause-round
+returns-in-Err-after_round-clause-round g c =
     let log = g.W.Transport.log in
     let observed = g.P.Observer.observed in
     let readings = g.C.TimeSource.readings in
