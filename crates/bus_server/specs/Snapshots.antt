@@ -42,11 +42,11 @@ ObservesLayout decoder_specs hub = map spec_of hub.bus.world.nodes ≡ decoder_s
 abbrev pub HasReported : Hub → Type 0
 HasReported hub = queue_of hub.sensors.unreported ≡ []
 
--- Both hold before an event is applied.
+-- A server is ready for an event: its decoders are those of the observer, and nothing is left to report.
 abbrev pub IsReady : (decoder_specs : List NodeSpec) → Hub → Type 0
 IsReady decoder_specs hub = ObservesLayout decoder_specs hub × HasReported hub
 
--- Both hold after a call that succeeded. After a fault of the observer reports may be left.
+-- After a call its decoders are those of the observer. Something is left to report only if the observer failed.
 abbrev pub IsReadyAfter : {T E : Type 0} → Result T E → (decoder_specs : List NodeSpec) → Hub → Type 0
 IsReadyAfter result decoder_specs hub = ObservesLayout decoder_specs hub × OnOk result (HasReported hub)
 

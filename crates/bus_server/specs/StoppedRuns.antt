@@ -36,7 +36,7 @@ Stops old new =
     (handled : List Handled) × Extends old.log new.log (transport_events handled)
     × Extends old.observed new.observed (observations_in handled) × StopsIn handled old.state new.state
 
--- A call that served: what it returned holds of the moments before and after it; or the observer failed in it.
+-- What a call did between two moments: this holds of the value that it returned, or the observer failed in it.
 abbrev pub Returns : {T E : Type 0} → (T → Snapshot → Snapshot → Type 0) → Result T E → (old new : Snapshot) → Type 0
 Returns Holds (Ok value) old new = Holds value old new
 Returns Holds (Err fault) old new = Stops old new

@@ -1,5 +1,5 @@
 //! The bus, with a railway and a programming track beside it and a send queue for each client.
-ghost use Rattle.std.specs.Prelude.{◌≡◌, ◌<◌, ◌≤◌, ◌&&◌, ◌∷◌, [], ◌++◌, Bool, IfNone, IfSome, IsTrue, OnSome, is_some, length, not, slice_index_or, slice_set, drop, take, map, option_copied, None, Some, true};
+ghost use Rattle.std.specs.Prelude.{◌≡◌, ◌<◌, ◌≤◌, ◌&&◌, ◌++◌, IfNone, IfSome, IsTrue, OnSome, is_some, length, slice_index_or, slice_set, drop, take, map, option_copied, None, Some, true};
 ghost use Rattle.std.specs.List.{list_all};
 ghost use Rattle.bus_server.specs.SendQueue.{is_within_capacity, queued};
 ghost use Rattle.layout_core.specs.Nodes.{spec_of};
@@ -50,9 +50,8 @@ pub(crate) struct Hub {
 
 impl Hub {
     ghost use Rattle.std.specs.Prelude.{ℕ};
-    ghost use Rattle.layout_core.specs.Nodes.{node_of};
     ghost use Rattle.bus_server.specs.Losses.{IsDraw};
-    ghost use Rattle.bus.specs.Bus.{client_of, is_event};
+    ghost use Rattle.bus.specs.Bus.{is_event};
     ghost use Rattle.bus.specs.State.{bus_state};
     ghost use Rattle.bus_server.specs.Observations.{Observed};
     ghost use Rattle.bus.specs.declared.event.Event.{Event as BusEvent};

@@ -1,5 +1,5 @@
 //! A whole run of a server.
-ghost use Rattle.std.specs.Prelude.{◌≡◌, ◌<◌, ◌∷◌, [], ◌++◌, Bool, IfErr, List, None, OnErr, OnOk, min, ℕ};
+ghost use Rattle.std.specs.Prelude.{◌≡◌, ◌<◌, [], ◌++◌, Bool, IfErr, List, None, OnOk, min, ℕ};
 ghost use Rattle.std.specs.List.{flat_map};
 ghost use Rattle.bus_server.specs.declared.pace.Pace.TheVariants.{RealTime};
 ghost use Rattle.bus.specs.Log.{Extends};

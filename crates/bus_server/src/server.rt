@@ -11,7 +11,7 @@ ghost use Rattle.bus_server.specs.NamedNodes.{names_of, specs_of};
 ghost use Rattle.bus_server.specs.Pace.{is_pace};
 ghost use Rattle.bus_server.specs.Reading.{IsReadNext, ReadsOne};
 ghost use Rattle.bus_server.specs.Hub.{ObservesReports};
-ghost use Rattle.bus_server.specs.Snapshots.{HasReported, ProgressesBy, Progresses, ProgressesWithoutInput, Snapshot, AcceptsAt, IsObserved, IsReady, IsReadyAfter, ObservesLayout, snapshot, state_of};
+ghost use Rattle.bus_server.specs.Snapshots.{HasReported, ProgressesBy, ProgressesWithoutInput, AcceptsAt, IsObserved, IsReady, IsReadyAfter, ObservesLayout, snapshot, state_of};
 ghost use Rattle.bus_server.specs.Rounds.{Accepts, AcceptsFirst, AcceptsSome, AllWrittenTo, IsFair, IsRound, Reads, ServesClient, ServesClients, Writes, WritesNone, refusals};
 ghost use Rattle.bus_server.specs.StoppedRuns.{Returns, Serves, Stops};
 

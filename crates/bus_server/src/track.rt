@@ -1,10 +1,10 @@
 //! The track, which runs after each round: turns that are due, or time.
-ghost use Rattle.std.specs.Prelude.{◌≡◌, ◌<◌, ◌≤◌, ◌+◌, ◌-◌, IfOk, ℕ, List, OnErr, OnOk};
+ghost use Rattle.std.specs.Prelude.{◌≡◌, ◌<◌, ◌≤◌, ◌+◌, ◌-◌, IfOk, ℕ, OnErr, OnOk};
 ghost use Rattle.bus.specs.Course.{micros_in};
-ghost use Rattle.bus_server.specs.ServerState.{LoggedEvent, events_of};
+ghost use Rattle.bus_server.specs.ServerState.{events_of};
 ghost use Rattle.bus_server.specs.Snapshots.{IsObserved, IsReady, IsReadyAfter, state_of};
 ghost use Rattle.bus_server.specs.StoppedRuns.{StopsInTime, StopsInTurns};
-ghost use Rattle.bus_server.specs.Track.{IsShare, RunsSteps, RunsTime, RunsTurns, RunsTurnsOf, is_piece, is_turn, turns_left, with_time_due};
+ghost use Rattle.bus_server.specs.Track.{IsShare, RunsSteps, RunsTime, RunsTurns, RunsTurnsOf, is_piece, is_turn, turns_left};
 
 use crate::CLIENTS;
 use crate::observer::Observer;
