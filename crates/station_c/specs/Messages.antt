@@ -1,7 +1,7 @@
 -- LocoNet messages, for C: a body and its check byte (LocoNet Personal Use Edition 1.0, message
 -- format and opcodes).
-use Rattle.std.specs.Prelude.{ℕ, ◌≡◌, ◌+◌, ◌-◌, ◌*◌, ◌/◌, ◌%◌, ◌++◌, Bool, if◌then◌else◌, List, [], ◌∷◌, length}
-use Rattle.ln_frame.specs.Message.{check_of}
+use Rattle.std.specs.Prelude.{ℕ, ◌≡◌, ◌+◌, ◌-◌, ◌*◌, ◌/◌, ◌%◌, ◌++◌, Bool, true, false, if◌then◌else◌, List, [], ◌∷◌, length}
+use Rattle.ln_frame.specs.Message.{are_data, check_of}
 use Rattle.ln_ops.specs.Message.{op_of}
 use Rattle.ln_ops.specs.declared.op.Op.{Op}
 use Rattle.station_c.specs.Answer.{padded}
@@ -18,6 +18,16 @@ message_with body = record { size = length body + 1; bytes = padded (sealed body
 -- the message with this body, which requests this
 abbrev pub Requests : (body : List ℕ) → Op → Message → Type 0
 Requests body op message = (message ≡ message_with body) × (op_of (sealed body) ≡ op)
+
+-- The message with this body, which requests this, is written if the arguments are valid. Otherwise the old one stays.
+pub record Writes (valid : Bool) (body : List ℕ) (op : Op) (written : Bool) (old new : Message) : Type 0 where
+  pub done : written ≡ valid
+  pub message : written ≡ true → Requests body op new
+  pub untouched : written ≡ false → new ≡ old
+
+-- the same for an opcode and bytes, which are valid below 128
+abbrev pub WritesData : (opcode : ℕ) → (bytes : List ℕ) → Op → (written : Bool) → (old new : Message) → Type 0
+WritesData opcode bytes op written old new = Writes (are_data bytes) (opcode ∷ bytes) op written old new
 
 -- OPC_SW_REQ: SW1 has bits 6 to 0 of a turnout's address, which is one less than its number
 abbrev pub sw1 : (turnout : ℕ) → ℕ

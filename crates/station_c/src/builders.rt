@@ -6,7 +6,7 @@ ghost use Rattle.ln_frame.specs.Message.{are_data, is_body};
 ghost use Rattle.ln_ops.specs.Message.{fields_of};
 ghost use Rattle.ln_ops.specs.declared.op.Op.TheVariants.{PowerOff, PowerOn, ForceIdle, Speed, Dirf, Snd, SwReq, SlotStat, Move, SlotRead, LocoAddr, SlotWrite};
 ghost use Rattle.ln_ops.specs.Slot.{is_address};
-ghost use Rattle.station_c.specs.Messages.{Requests, message_with, sealed, sw1, sw2};
+ghost use Rattle.station_c.specs.Messages.{Requests, Writes, WritesData, message_with, sealed, sw1, sw2};
 
 use crate::message::{Message, seal};
 
@@ -61,10 +61,7 @@ pub extern "C" fn station_opc_idle(message: &mut Message)
 /// Returns false if one of them is above 127.
 #[unsafe(no_mangle)]
 pub extern "C" fn station_opc_loco_spd(slot: u8, spd: u8, message: &mut Message) -> bool
-    ensures done { result ≡ are_data (slot ∷ spd ∷ []) }
-    ensures message { result ≡ true
-        → Requests (0xA0 ∷ slot ∷ spd ∷ []) (Speed slot spd) message.new }
-    ensures untouched { result ≡ false → message.new ≡ message.old }
+    ensures { WritesData 0xA0 (slot ∷ spd ∷ []) (Speed slot spd) result message.old message.new }
 {
     seal(&[0xA0, slot, spd], message)
 }
@@ -75,10 +72,7 @@ pub extern "C" fn station_opc_loco_spd(slot: u8, spd: u8, message: &mut Message)
 /// Returns false if one of them is above 127.
 #[unsafe(no_mangle)]
 pub extern "C" fn station_opc_loco_dirf(slot: u8, dirf: u8, message: &mut Message) -> bool
-    ensures done { result ≡ are_data (slot ∷ dirf ∷ []) }
-    ensures message { result ≡ true
-        → Requests (0xA1 ∷ slot ∷ dirf ∷ []) (Dirf slot dirf) message.new }
-    ensures untouched { result ≡ false → message.new ≡ message.old }
+    ensures { WritesData 0xA1 (slot ∷ dirf ∷ []) (Dirf slot dirf) result message.old message.new }
 {
     seal(&[0xA1, slot, dirf], message)
 }
@@ -88,9 +82,7 @@ pub extern "C" fn station_opc_loco_dirf(slot: u8, dirf: u8, message: &mut Messag
 /// Returns false if one of them is above 127.
 #[unsafe(no_mangle)]
 pub extern "C" fn station_opc_loco_snd(slot: u8, snd: u8, message: &mut Message) -> bool
-    ensures done { result ≡ are_data (slot ∷ snd ∷ []) }
-    ensures message { result ≡ true → Requests (0xA2 ∷ slot ∷ snd ∷ []) (Snd slot snd) message.new }
-    ensures untouched { result ≡ false → message.new ≡ message.old }
+    ensures { WritesData 0xA2 (slot ∷ snd ∷ []) (Snd slot snd) result message.old message.new }
 {
     seal(&[0xA2, slot, snd], message)
 }
@@ -105,11 +97,9 @@ pub extern "C" fn station_opc_sw_req(
     on: bool,
     message: &mut Message,
 ) -> bool
-    ensures done { result ≡ (nat_le 1 turnout && nat_le turnout 2048) }
-    ensures message { result ≡ true
-        → Requests (0xB0 ∷ sw1 turnout ∷ sw2 turnout closed on ∷ []) (SwReq (turnout - 1) closed on)
-        message.new }
-    ensures untouched { result ≡ false → message.new ≡ message.old }
+    ensures { Writes (nat_le 1 turnout && nat_le turnout 2048)
+        (0xB0 ∷ sw1 turnout ∷ sw2 turnout closed on ∷ []) (SwReq (turnout - 1) closed on)
+        result message.old message.new }
 {
     if turnout < 1 || turnout > LAST_TURNOUT {
         return false;
@@ -125,10 +115,8 @@ pub extern "C" fn station_opc_sw_req(
 /// Returns false if one of them is above 127.
 #[unsafe(no_mangle)]
 pub extern "C" fn station_opc_slot_stat1(slot: u8, stat: u8, message: &mut Message) -> bool
-    ensures done { result ≡ are_data (slot ∷ stat ∷ []) }
-    ensures message { result ≡ true
-        → Requests (0xB5 ∷ slot ∷ stat ∷ []) (SlotStat slot stat) message.new }
-    ensures untouched { result ≡ false → message.new ≡ message.old }
+    ensures { WritesData 0xB5 (slot ∷ stat ∷ []) (SlotStat slot stat)
+        result message.old message.new }
 {
     seal(&[0xB5, slot, stat], message)
 }
@@ -139,10 +127,7 @@ pub extern "C" fn station_opc_slot_stat1(slot: u8, stat: u8, message: &mut Messa
 /// Returns false if one of them is above 127.
 #[unsafe(no_mangle)]
 pub extern "C" fn station_opc_move_slots(src: u8, dest: u8, message: &mut Message) -> bool
-    ensures done { result ≡ are_data (src ∷ dest ∷ []) }
-    ensures message { result ≡ true
-        → Requests (0xBA ∷ src ∷ dest ∷ []) (Move src dest) message.new }
-    ensures untouched { result ≡ false → message.new ≡ message.old }
+    ensures { WritesData 0xBA (src ∷ dest ∷ []) (Move src dest) result message.old message.new }
 {
     seal(&[0xBA, src, dest], message)
 }
@@ -152,9 +137,7 @@ pub extern "C" fn station_opc_move_slots(src: u8, dest: u8, message: &mut Messag
 /// Returns false if it is above 127.
 #[unsafe(no_mangle)]
 pub extern "C" fn station_opc_rq_sl_data(slot: u8, message: &mut Message) -> bool
-    ensures done { result ≡ are_data (slot ∷ 0 ∷ []) }
-    ensures message { result ≡ true → Requests (0xBB ∷ slot ∷ 0 ∷ []) (SlotRead slot) message.new }
-    ensures untouched { result ≡ false → message.new ≡ message.old }
+    ensures { WritesData 0xBB (slot ∷ 0 ∷ []) (SlotRead slot) result message.old message.new }
 {
     seal(&[0xBB, slot, 0], message)
 }
@@ -164,11 +147,8 @@ pub extern "C" fn station_opc_rq_sl_data(slot: u8, message: &mut Message) -> boo
 /// Returns false unless the address is 1 to 10239.
 #[unsafe(no_mangle)]
 pub extern "C" fn station_opc_loco_adr(address: u16, message: &mut Message) -> bool
-    ensures done { result ≡ is_address address }
-    ensures message { result ≡ true
-        → Requests (0xBF ∷ address / 128 ∷ address % 128 ∷ [])
-        (LocoAddr (address / 128) (address % 128)) message.new }
-    ensures untouched { result ≡ false → message.new ≡ message.old }
+    ensures { Writes (is_address address) (0xBF ∷ address / 128 ∷ address % 128 ∷ [])
+        (LocoAddr (address / 128) (address % 128)) result message.old message.new }
 {
     if address < 1 || address > LAST_ADDRESS {
         return false;
@@ -185,11 +165,8 @@ pub extern "C" fn station_opc_loco_adr(address: u16, message: &mut Message) -> b
 /// Returns false unless they are 11 bytes below 128.
 #[unsafe(no_mangle)]
 pub extern "C" fn station_opc_wr_sl_data(fields: &[u8], message: &mut Message) -> bool
-    ensures done { result ≡ ((length fields.now == 11) && are_data fields.now) }
-    ensures message { result ≡ true
-        → Requests (0xEF ∷ 14 ∷ fields.now) (SlotWrite (fields_of (0xEF ∷ 14 ∷ fields.now)))
-        message.new }
-    ensures untouched { result ≡ false → message.new ≡ message.old }
+    ensures { Writes ((length fields.now == 11) && are_data fields.now) (0xEF ∷ 14 ∷ fields.now)
+        (SlotWrite (fields_of (0xEF ∷ 14 ∷ fields.now))) result message.old message.new }
 {
     match *fields {
         [slot, stat, adr, spd, dirf, trk, ss2, adr2, snd, id1, id2] => seal(
