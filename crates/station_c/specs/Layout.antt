@@ -1,9 +1,11 @@
 -- The handle of a layout in a program in C, and how a layout is made.
-use Rattle.std.specs.Prelude.{ℕ, ◌≡◌, ◌⊎◌, Bool, true, false, if◌then◌else◌, List, length, map, Option, Some, None, Result, Ok, Err}
+use Rattle.std.specs.Prelude.{ℕ, ◌≡◌, ◌⊎◌, Bool, true, false, if◌then◌else◌, List, length, map, Option, Some, None, Result, Ok, Err, slice_get}
+use Rattle.std.specs.Option.{option_and_then}
 use Rattle.station_core.specs.Seen.{Seen, first_seen, is_line_count}
 use Rattle.decoder_node.specs.declared.node.NodeSpec.{NodeSpec}
+use Rattle.decoder_node.specs.declared.running.Running.{Running}
 use Rattle.layout_core.specs.declared.node.Node.{Node}
-use Rattle.layout_core.specs.Nodes.{node_of}
+use Rattle.layout_core.specs.Nodes.{node_of, outputs_of, running_of}
 use Rattle.railway.specs.Railway.{RailwayState}
 use Rattle.roster.specs.declared.fault.RosterFault.{RosterFault}
 use Rattle.roster.specs.Entry.{Entry, spec_of}
@@ -21,6 +23,18 @@ railway_of layout = layout.inside.contents.railway
 
 abbrev pub lines_of : Layout → ℕ
 lines_of layout = length (station_of layout).lines
+
+-- decoder i, if there is such a decoder and a layout
+abbrev pub node_at : Layout → (i : ℕ) → Option Node
+node_at layout i = if layout.made then slice_get (nodes_of layout) i else None
+
+-- how it runs, if it is a locomotive decoder
+abbrev pub running_at : Layout → (i : ℕ) → Option Running
+running_at layout i = option_and_then running_of (node_at layout i)
+
+-- its outputs, if it is an accessory decoder
+abbrev pub outputs_at : Layout → (i : ℕ) → Option ℕ
+outputs_at layout i = option_and_then outputs_of (node_at layout i)
 
 -- the layout is as before, with the same station, decoders and railway
 abbrev pub IsUnchanged : (old new : Layout) → Type 0

@@ -2,6 +2,7 @@ pub mod Answer
 pub mod Decoder
 pub mod Event
 pub mod Fault
+pub mod Found
 pub mod Kept
 pub mod Layout
 pub mod Messages

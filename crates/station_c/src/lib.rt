@@ -6,12 +6,10 @@
 //! `bindings/station.h` states the obligations of the caller.
 #![tactic(auto)]
 
-ghost use Rattle.std.specs.Prelude.{◌≡◌, ◌≢◌, ◌⊎◌, ◌==◌, ◌&&◌, nat_lt, if◌then◌else◌, Some, None, IfSome, true, false, length, map, is_some, option_map};
-ghost use Rattle.std.specs.List.{list_all, slice_index_or};
+ghost use Rattle.std.specs.Prelude.{◌≡◌, ◌≢◌, ◌⊎◌, ◌==◌, ◌&&◌, nat_lt, if◌then◌else◌, Some, None, IfSome, true, false, length, map, option_map};
+ghost use Rattle.std.specs.List.{list_all};
 ghost use Rattle.station_core.specs.Seen.{known_of};
-ghost use Rattle.layout_core.specs.declared.node.Node.{Node as NodeValue};
 ghost use Rattle.layout_core.specs.Cycle.{RunsAfterNoise, RunsAsWanted};
-ghost use Rattle.layout_core.specs.Nodes.{outputs_of, running_of};
 ghost use Rattle.layout_core.specs.Played.{after_event, after_events, answer_to, answers_to};
 ghost use Rattle.layout_core.specs.World.{AfterEvent, HaveHeard};
 ghost use Rattle.roster.specs.Format.{roster_in};
@@ -19,7 +17,8 @@ ghost use Rattle.station_c.specs.Answer.{answered};
 ghost use Rattle.station_c.specs.Decoder.{nodes_of as decoders_of};
 ghost use Rattle.station_c.specs.Event.{event_of, is_one};
 ghost use Rattle.station_c.specs.Fault.{IsFault, verdict};
-ghost use Rattle.station_c.specs.Layout.{IsFaultyNode, IsNew, IsStatus, IsUnchanged, lines_of, nodes_of, railway_of, refusal, specs_in, station_of};
+ghost use Rattle.station_c.specs.Found.{Overwrites};
+ghost use Rattle.station_c.specs.Layout.{IsFaultyNode, IsNew, IsStatus, IsUnchanged, lines_of, nodes_of, outputs_at, railway_of, refusal, running_at, specs_in, station_of};
 ghost use Rattle.station_c.specs.Motion.{driven};
 
 mod answer;
@@ -28,6 +27,7 @@ mod contents;
 mod decoder;
 mod driving;
 mod event;
+mod found;
 mod kept_contents;
 mod kind;
 mod layout;
@@ -55,6 +55,7 @@ pub use driving::Motion;
 use driving::driven;
 pub use event::EventFields;
 use event::are_events;
+use found::overwrite;
 pub use layout::Layout;
 use layout_core::{DecoderState, Event, World};
 pub use message::Message;
@@ -325,14 +326,8 @@ pub extern "C" fn station_run(
 /// Returns the state of decoder i. If there is no such decoder or no layout, both of its parts are
 /// `None`.
 fn decoder_state(alloc: Global, layout: &mut Layout, i: usize) -> DecoderState
-    ensures running { (none : NodeValue)
-        → result.running
-        ≡ (if layout.old.made && nat_lt i (length (nodes_of layout.old)) then running_of
-        (slice_index_or (nodes_of layout.old) i none) else None) }
-    ensures outputs { (none : NodeValue)
-        → result.outputs
-        ≡ (if layout.old.made && nat_lt i (length (nodes_of layout.old)) then outputs_of
-        (slice_index_or (nodes_of layout.old) i none) else None) }
+    ensures running { result.running ≡ running_at layout.old i }
+    ensures outputs { result.outputs ≡ outputs_at layout.old i }
     ensures untouched { IsUnchanged layout.old layout.new }
 {
     let mut decoder_state = DecoderState {
@@ -359,20 +354,11 @@ pub extern "C" fn station_running(
     i: usize,
     motion: &mut Motion,
 ) -> bool
-    ensures done { (none : NodeValue)
-        → result ≡ (layout.old.made && nat_lt i (length (nodes_of layout.old)) && is_some
-        (running_of (slice_index_or (nodes_of layout.old) i none))) }
-    ensures driven { (none : NodeValue) → result ≡ true
-        → option_map driven (running_of (slice_index_or (nodes_of layout.old) i none))
-        ≡ Some motion.new }
-    ensures untold { result ≡ false → motion.new ≡ motion.old }
+    ensures driven { Overwrites (option_map driven (running_at layout.old i)) result motion.old
+        motion.new }
     ensures untouched { IsUnchanged layout.old layout.new }
 {
-    let Some(running) = decoder_state(alloc, layout, i).running else {
-        return false;
-    };
-    *motion = driven(running);
-    true
+    overwrite(motion, decoder_state(alloc, layout, i).running.map(driven))
 }
 
 /// Writes the outputs of decoder i, bit j for output j, to `outputs`.
@@ -386,17 +372,8 @@ pub extern "C" fn station_outputs(
     i: usize,
     outputs: &mut u8,
 ) -> bool
-    ensures done { (none : NodeValue)
-        → result ≡ (layout.old.made && nat_lt i (length (nodes_of layout.old)) && is_some
-        (outputs_of (slice_index_or (nodes_of layout.old) i none))) }
-    ensures driven { (none : NodeValue) → result ≡ true
-        → outputs_of (slice_index_or (nodes_of layout.old) i none) ≡ Some outputs.new }
-    ensures untold { result ≡ false → outputs.new ≡ outputs.old }
+    ensures driven { Overwrites (outputs_at layout.old i) result outputs.old outputs.new }
     ensures untouched { IsUnchanged layout.old layout.new }
 {
-    let Some(found) = decoder_state(alloc, layout, i).outputs else {
-        return false;
-    };
-    *outputs = found;
-    true
+    overwrite(outputs, decoder_state(alloc, layout, i).outputs)
 }
