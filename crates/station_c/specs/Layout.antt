@@ -21,6 +21,10 @@ nodes_of layout = layout.inside.contents.world.nodes
 abbrev pub railway_of : Layout → Option RailwayState
 railway_of layout = layout.inside.contents.railway
 
+-- the railway of a layout with a track plan, if there is one
+abbrev pub railway_at : Layout → Option RailwayState
+railway_at layout = if layout.made then railway_of layout else None
+
 abbrev pub lines_of : Layout → ℕ
 lines_of layout = length (station_of layout).lines
 

@@ -1,8 +1,10 @@
 //! The handle of a layout in a program in C.
 ghost use Rattle.std.specs.Prelude.{◌≡◌, true, false, None, IfSome};
+ghost use Rattle.std.specs.Fn.{FnOnceReturnsAt};
 
 use crate::contents::Contents;
 use crate::kept_contents::KeptContents;
+use railway::Railway;
 use std::alloc::Global;
 use std::mem;
 
@@ -18,6 +20,8 @@ pub struct Layout {
 }
 
 impl Layout {
+    ghost use Rattle.station_c.specs.Layout.{IsUnchanged, railway_at};
+
     /// Creates a handle without a layout, as C begins with.
     pub(crate) fn none(alloc: Global) -> Layout
         ensures { result.made ≡ false }
@@ -40,6 +44,25 @@ impl Layout {
         }
         let Layout { inside, made: _ } = mem::replace(self, Layout::none(alloc));
         Some(inside.into_box())
+    }
+
+    /// Returns what `find` finds in the railway beside the layout, if there is one. The layout stays
+    /// as it is.
+    pub(crate) fn find<T, F: FnOnce(&Railway) -> Option<T>>(
+        &mut self,
+        alloc: Global,
+        find: F,
+    ) -> Option<T>
+        requires { F.IsAlwaysCallable find }
+        ensures found { IfSome (railway_at self.old)
+            (λ railway. FnOnceReturnsAt F.FnOnce find railway result) }
+        ensures none { railway_at self.old ≡ None → result ≡ None }
+        ensures untouched { IsUnchanged self.old self.new }
+    {
+        let contents = self.take(alloc)?;
+        let found = contents.railway.as_ref().and_then(find);
+        self.put(contents);
+        found
     }
 
     /// Puts in a layout; there was none.

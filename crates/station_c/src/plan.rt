@@ -1,10 +1,12 @@
 //! Layouts with a track plan: trains, and sensors that report where they are.
-ghost use Rattle.std.specs.Prelude.{◌≡◌, ◌≢◌, ◌⊎◌, ◌&&◌, Ok, Some, false, is_some, true};
+ghost use Rattle.std.specs.Prelude.{◌≡◌, ◌≢◌, ◌⊎◌, Ok, Some, false, is_some, true};
 ghost use Rattle.roster.specs.Format.{roster_in};
-ghost use Rattle.station_c.specs.Layout.{IsUnchanged, nodes_of, railway_of, station_of};
+ghost use Rattle.station_c.specs.Found.{Overwrites};
+ghost use Rattle.station_c.specs.Layout.{IsUnchanged, nodes_of, railway_at, railway_of, station_of};
 ghost use Rattle.station_c.specs.Plan.{HasPlan, IsPlanStatus, has_railway, level_in, railway_after, sensed_by, train_of};
 
 use crate::contents::Contents;
+use crate::found::overwrite;
 use crate::layout::Layout;
 use crate::train::{Train, told};
 use crate::{ALREADY_MADE, BAD_DECODERS, BAD_PLAN, NO_MEMORY, make};
@@ -107,32 +109,15 @@ pub extern "C" fn station_sensor(
     sensor: u16,
     occupied: &mut bool,
 ) -> bool
-    ensures done { result
-        ≡ (layout.old.made && is_some (sensed_by (railway_of layout.old) sensor)) }
-    ensures sensed { result ≡ true → sensed_by (railway_of layout.old) sensor ≡ Some occupied.new }
-    ensures untold { result ≡ false → occupied.new ≡ occupied.old }
+    ensures sensed { Overwrites (sensed_by (railway_at layout.old) sensor) result occupied.old
+        occupied.new }
     ensures untouched { IsUnchanged layout.old layout.new }
 {
-    let Some(contents) = layout.take(alloc) else {
-        return false;
-    };
-    let level = sensed_by(&contents.railway, sensor);
-    layout.put(contents);
-    let Some(level) = level else {
-        return false;
-    };
-    *occupied = level;
-    true
-}
-
-/// Returns whether a sensor finds its block occupied, if a block has it.
-fn sensed_by(railway: &Option<Railway>, sensor: u16) -> Option<bool>
-    ensures { result ≡ sensed_by railway.now sensor }
-{
-    match railway {
-        Some(railway) => level_in(railway.report_all().as_slice(), sensor),
-        None => None,
-    }
+    let level = layout.find(
+        alloc,
+        |railway| level_in(railway.report_all().as_slice(), sensor),
+    );
+    overwrite(occupied, level)
 }
 
 /// Returns what the first of these reports says of a sensor.
@@ -157,32 +142,16 @@ pub extern "C" fn station_train_of(
     i: usize,
     train: &mut Train,
 ) -> bool
-    ensures done { result ≡ (layout.old.made && is_some (train_of (railway_of layout.old) i)) }
-    ensures told { result ≡ true → train_of (railway_of layout.old) i ≡ Some train.new }
-    ensures untold { result ≡ false → train.new ≡ train.old }
+    ensures told { Overwrites (train_of (railway_at layout.old) i) result train.old train.new }
     ensures untouched { IsUnchanged layout.old layout.new }
 {
-    let Some(contents) = layout.take(alloc) else {
-        return false;
-    };
-    let found = train_of(&contents.railway, i);
-    layout.put(contents);
-    let Some(found) = found else {
-        return false;
-    };
-    *train = found;
-    true
+    overwrite(train, layout.find(alloc, |railway| train_of(railway, i)))
 }
 
 /// Returns where the train of an index is, if there is one.
-fn train_of(railway: &Option<Railway>, i: usize) -> Option<Train>
-    ensures { result ≡ train_of railway.now i }
+fn train_of(railway: &Railway, i: usize) -> Option<Train>
+    ensures { result ≡ train_of (Some railway.now) i }
 {
-    let Some(railway) = railway else {
-        return None;
-    };
-    let Some(train) = railway.trains().get(i) else {
-        return None;
-    };
+    let train = railway.trains().get(i)?;
     Some(told(train, railway.speed(i)))
 }
