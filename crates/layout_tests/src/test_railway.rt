@@ -290,6 +290,7 @@ const STORIES: &[(&str, Made, &[Step])] = &[
             STOP,
             Step::Elapse(2_000_000, &[]),
             Step::Speed(50),
+            Step::Front(912_500_024_999_999),
             Step::Elapse(1_000_000, &[]),
             Step::Speed(0),
             Step::Front(937_499_999_999_999),
