@@ -3,9 +3,8 @@ ghost use Rattle.explain.specs.Conversion.{ExplainsOrConverts, FailsSo};
 
 use crate::conversion::{Conversion, convert};
 use crate::streams::explain;
-use filter::{Filter, FilterFlag, FilterFlags, FilterResult, FilterText};
+use filter::{Filter, FilterFlag, FilterResult, FilterText, Run};
 use input_text::{Input, Output};
-use std::alloc::Global;
 
 /// Adds explanations to the lines of an input, or converts a whole log or capture.
 pub struct Explain;
@@ -32,13 +31,8 @@ impl Filter for Explain {
         }
     }
 
-    fn run<I: Input, O: Output>(
-        &self,
-        alloc: Global,
-        flags: FilterFlags,
-        input: &mut I,
-        output: &mut O,
-    ) -> FilterResult {
+    fn run<I: Input, O: Output>(&self, run: Run, input: &mut I, output: &mut O) -> FilterResult {
+        let Run { alloc, flags } = run;
         let conversion = match (flags.first, flags.second) {
             (false, false) => return explain(alloc, input, output),
             (true, false) => Conversion::LogToHex,

@@ -9,6 +9,14 @@ use crate::text::{FilterFlags, FilterText};
 use input_text::{Input, Output};
 use std::alloc::Global;
 
+/// What a run of a filter is given beside its streams.
+#[derive(Clone, Copy)]
+pub struct Run {
+    pub alloc: Global,
+    /// Which flags of the command line are set.
+    pub flags: FilterFlags,
+}
+
 /// A program that reads an input and writes an output.
 pub trait Filter {
     /// The effect of a run with these flags that does not fail: the input before and after it, and
@@ -23,21 +31,15 @@ pub trait Filter {
     /// The texts of its command line.
     fn text(&self) -> FilterText<'static>;
 
-    /// Runs it on an input. `flags` says which flags of the command line are set.
-    fn run<I: Input, O: Output>(
-        &self,
-        alloc: Global,
-        flags: FilterFlags,
-        input: &mut I,
-        output: &mut O,
-    ) -> FilterResult
+    /// Runs it on an input.
+    fn run<I: Input, O: Output>(&self, run: Run, input: &mut I, output: &mut O) -> FilterResult
         requires reads { I.failed input.old ≡ false }
         requires writes { O.failed output.old ≡ false }
         ensures filtered { OnOk result
-            (filters flags (I.left input.old) (I.left input.new) (O.held output.old)
+            (filters run.flags (I.left input.old) (I.left input.new) (O.held output.old)
             (O.held output.new)) }
         ensures failed { IfErr result
-            (λ fault. fails flags fault (I.left input.old) (I.left input.new)
+            (λ fault. fails run.flags fault (I.left input.old) (I.left input.new)
             (O.held output.old) (O.held output.new)) }
         // The fault is that of the output exactly if a write or a flush failed.
         ensures unwritten { O.failed output.new ≡ is_unwritten result };

@@ -24,7 +24,7 @@ mod terminal;
 mod text;
 
 pub use fault::{FilterFault, FilterResult};
-pub use filter::Filter;
+pub use filter::{Filter, Run};
 pub use orders::filter_order;
 pub use running::{execute, execute_words};
 pub use standard::run_filter;

@@ -9,7 +9,7 @@ ghost use Rattle.filter.specs.FilterLine.{AsksFilter, file_in};
 ghost use Rattle.filter.specs.FilterRuns.{Rejects, RunsOn, RunsOnFile, RunsWords};
 ghost use Rattle.input_text.specs.Write.{failed_after};
 
-use crate::filter::Filter;
+use crate::filter::{Filter, Run};
 use crate::orders::filter_order;
 use crate::report::StartFault;
 use crate::text::{FilterFlags, FilterOrder, FilterText};
@@ -91,7 +91,7 @@ pub fn execute<F: Filter, I: Input, O: Output, E: Write>(
     ensures unwritten { O.failed output.new ≡ (result == 4) }
     ensures quiet { result ≡ 0 → faults.new ≡ faults.old }
 {
-    match filter.run(alloc, flags, input, output) {
+    match filter.run(Run { alloc, flags }, input, output) {
         Ok(()) => 0,
         Err(fault) => fault.report(filter.text(), source, faults),
     }

@@ -3,9 +3,8 @@ ghost use Rattle.trace.specs.Drawn.{DrawsInput, FailsToDraw};
 
 use crate::drawing::Drawing;
 use crate::run::draw;
-use filter::{Filter, FilterFlags, FilterResult, FilterText, run_filter};
+use filter::{Filter, FilterResult, FilterText, Run, run_filter};
 use input_text::{Input, Output};
-use std::alloc::Global;
 use std::process::ExitCode;
 
 /// Draws the lines of an input.
@@ -23,14 +22,8 @@ impl<D: Drawing> Filter for DrawingFilter<'_, D> {
         self.drawing.text()
     }
 
-    fn run<I: Input, O: Output>(
-        &self,
-        alloc: Global,
-        _flags: FilterFlags,
-        input: &mut I,
-        output: &mut O,
-    ) -> FilterResult {
-        draw(self.drawing, alloc, input, output)
+    fn run<I: Input, O: Output>(&self, run: Run, input: &mut I, output: &mut O) -> FilterResult {
+        draw(self.drawing, run.alloc, input, output)
     }
 }
 
