@@ -1,5 +1,5 @@
 //! Running the program on its arguments, its port and its clock.
-ghost use Rattle.std.specs.Prelude.{◌≡◌, ◌⊎◌, ◌≤◌, IfErr, None, OnOk, [], false, map, true};
+ghost use Rattle.std.specs.Prelude.{◌≡◌, ◌⊎◌, ◌≤◌, IfErr, None, OnOk, [], false, is_some, map, true};
 ghost use Rattle.roster.specs.Decoders.{entries_of};
 ghost use Rattle.bus_log.specs.Verbosities.{verbosity_of};
 ghost use Rattle.bus_server.specs.Running.{run_snapshot};
@@ -256,13 +256,14 @@ fn with_sockets<O: Write>(
         Err(fault) => return Err(ServerFault::of_bind(address, fault, logs)),
     };
     sockets.wake_on(&STANDARD_OUTPUT);
-    let served = with_page(rt, order, roster, server, &mut sockets, output, logs);
+    let served = with_log(rt, order, roster, server, &mut sockets, output, logs);
     logs.sockets = sockets.close_all();
     served
 }
 
-/// Continues with the page, if one is served.
-fn with_page<O: Write>(
+/// Serves, with the page, if the order has one, and a queue for the lines of the log. At the end the
+/// rest of them is written.
+fn with_log<O: Write>(
     rt: &HostRuntime,
     order: &mut ServerOrder,
     roster: Option<&Roster>,
@@ -282,35 +283,7 @@ fn with_page<O: Write>(
     ensures starved { IfErr result (λ fault. status_of fault ≡ 6 → (output.new ≡ output.old)
         × (sockets.new.log.events ≡ []) × (logs.new.clock.readings ≡ [])) }
 {
-    if let Some(page) = order.page {
-        let address = SocketAddr::from((order.address, page));
-        let names = mem::replace(&mut order.hosts, Vec::new(rt.alloc()));
-        bind_page(rt, sockets, address, order.page_file.take(), names, logs)?;
-    }
-    with_log(rt, order, roster, server, sockets, output, logs)
-}
-
-/// Serves, with a queue for the lines of the log. At the end the rest of them is written.
-fn with_log<O: Write>(
-    rt: &HostRuntime,
-    order: &ServerOrder,
-    roster: Option<&Roster>,
-    server: &mut Server,
-    sockets: &mut Sockets<'_, HostRuntime>,
-    output: &mut StandardOutput<O>,
-    logs: &mut DeviceLogs,
-) -> Result<(), ServerFault>
-    requires works { output.old.failed ≡ false }
-    requires readings { logs.old.clock.readings ≡ [] }
-    requires ready { IsReady order.now (entries_of roster) server.old.hub }
-    requires new { sockets.old.log.events ≡ [] }
-    ensures serves { OnOk result (ServesBy order.now (entries_of roster.entry)
-        (state_of server.old.hub).railway (state_of server.old.hub).programming
-        sockets.new.log.events logs.new.clock.readings) }
-    ensures end { IsEnd (names_file order.now) output.new.failed logs.new.faults.failed result }
-    ensures starved { IfErr result (λ fault. status_of fault ≡ 6 → (output.new ≡ output.old)
-        × (sockets.new.log.events ≡ []) × (logs.new.clock.readings ≡ [])) }
-{
+    open_page(rt, order, sockets, logs)?;
     let mut log = LogQueue::new(rt.alloc())?;
     report_addresses(rt, sockets, &mut log, logs)?;
     // The output notes a failed write; the lines stay queued.
@@ -321,6 +294,27 @@ fn with_log<O: Write>(
     // A reader that accepts nothing for this long is not waited for.
     let _ = printer.write_queued(output, Duration::from_millis(LAST_WAIT_MILLIS));
     served
+}
+
+/// Serves the page of an order, if it has one, by its names.
+fn open_page(
+    rt: &HostRuntime,
+    order: &mut ServerOrder,
+    sockets: &mut Sockets<'_, HostRuntime>,
+    logs: &mut DeviceLogs,
+) -> Result<(), ServerFault>
+    ensures order { order.new
+        ≡ record order.old { hosts = order.new.hosts; page_file = order.new.page_file } }
+    ensures log { sockets.new.log ≡ sockets.old.log }
+    ensures end { IsEnd (is_some order.old.page) false logs.new.faults.failed result }
+    ensures calls { logs.new.clock ≡ logs.old.clock }
+{
+    let Some(page) = order.page else {
+        return Ok(());
+    };
+    let address = SocketAddr::from((order.address, page));
+    let names = mem::replace(&mut order.hosts, Vec::new(rt.alloc()));
+    bind_page(rt, sockets, address, order.page_file.take(), names, logs)
 }
 
 /// Reads a page, and serves it by these names.

@@ -10,5 +10,5 @@ use Rattle.lbserver.proofs.executing.with_sockets.Goals as goal
 pub returns-clause-serves : goal.returns-clause-serves
 returns-clause-serves g c =
     let start = state_of c.args.server.now.hub in
-    subst (λ (events : List TransportEvent). OnOk c.with_page-served.result (ServesBy c.args.order.now (entries_of c.args.roster) start.railway start.programming events c.with_page-served.new.logs.clock.readings))
-    (sym (ap (λ (log : CallLog). log.events) c.close_all-logs.ensures)) c.with_page-served.ensures.serves
+    subst (λ (events : List TransportEvent). OnOk c.with_log-served.result (ServesBy c.args.order.now (entries_of c.args.roster) start.railway start.programming events c.with_log-served.new.logs.clock.readings))
+    (sym (ap (λ (log : CallLog). log.events) c.close_all-logs.ensures)) c.with_log-served.ensures.serves
