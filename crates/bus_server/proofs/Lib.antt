@@ -17,6 +17,7 @@ pub mod Nothings
 pub mod OnLayout
 pub mod Ordering
 pub mod Placing
+pub mod Premises
 pub mod Repeating
 pub mod Rounding
 pub mod Sizes
