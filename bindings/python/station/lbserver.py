@@ -293,7 +293,8 @@ class Server(Throttle, HasNodes):
         return found
 
     def wait_for_sensor(self, number: int, high: bool = True, seconds: float | None = None, since: int | None = None) -> None:
-        """Waits until a sensor, 1 to 4096, is high: occupied; or low. With a mark `since` it has to report so after the mark."""
+        """Waits until a sensor, 1 to 4096, is high: occupied; or low, or reports so from now on. With a mark `since` it has to report so
+        after the mark."""
         wanted = SensorReport(in_range(number, 1, LAST_SENSOR, "a sensor"), high)
         begun = self.mark() if since is None else since
 

@@ -4,7 +4,7 @@ ghost use Rattle.railway.specs.Blocks.{block_name};
 ghost use Rattle.railway.specs.Conflicts.{first_in};
 ghost use Rattle.roster.specs.Decoders.{entries_of};
 ghost use Rattle.bus_log.specs.LogQueues.{after_lines};
-ghost use Rattle.bus_log.specs.ChangeLines.{all_blocks, all_changes, all_conflicts, all_trains, block_changes, conflicts_in, meetings_in, pair_in, train_changes};
+ghost use Rattle.bus_log.specs.ChangeLines.{all_blocks, all_changes, all_conflicts, all_trains, conflicts_in, meetings_in, pair_in};
 ghost use Rattle.bus_log.specs.RailwayLines.{AllStay, are_in, change_lines, conflict_line, derailed_at, derailed_line, free_line, is_in, is_new, occupied_line, railway_lines, stays, train_name, trains_of};
 
 use crate::change::Change;

@@ -16,7 +16,7 @@ use Rattle.ln_frame.specs.Message.{IsWhole}
 use Rattle.ln_ops.specs.Message.{op_of}
 use Rattle.ln_ops.specs.Reply.{reply_bytes}
 use Rattle.ln_ops.specs.declared.op.Op.{Op}
-use Rattle.ln_ops.specs.declared.op.Op.TheVariants.{PowerOff, PowerOn, ForceIdle, Speed, Dirf, Snd, SwReq, SwAck, LongAck, SlotStat, Move, SlotRead, LocoAddr, SlotData, SlotWrite, Imm, Other}
+use Rattle.ln_ops.specs.declared.op.Op.TheVariants.{PowerOff}
 use Rattle.ln_ops.specs.declared.reply.Reply.{Reply}
 use Rattle.ln_ops.specs.declared.reply.Reply.TheVariants as reply
 use Rattle.loconet_tcp.specs.Requests.{bytes_of, leading_bytes}

@@ -6,14 +6,14 @@ ghost use Rattle.command_line.specs.Requests.{is_request};
 ghost use Rattle.filter.specs.Fault.{status_of};
 ghost use Rattle.filter.specs.declared.fault.FilterFault.{FilterFault};
 ghost use Rattle.filter.specs.FilterLine.{AsksFilter, file_in};
-ghost use Rattle.filter.specs.FilterRuns.{Rejects, RunsOn, RunsOnFile, RunsWords};
+ghost use Rattle.filter.specs.FilterRuns.{Rejects, RunsOn, RunsWords};
 ghost use Rattle.input_text.specs.Write.{failed_after};
 
 use crate::filter::{Filter, Run};
 use crate::orders::filter_order;
 use crate::report::StartFault;
 use crate::text::{FilterFlags, FilterOrder, FilterText};
-use command_line::{FileName, OrderFault, open_file};
+use command_line::{OrderFault, open_file};
 use input_text::{Broken, Input, Output, put_all};
 use std::alloc::Global;
 use std::io::Write;

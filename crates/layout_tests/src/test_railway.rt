@@ -185,7 +185,7 @@ const REAR_AT_150: Position = Position {
     facing: End::B,
 };
 
-/// In main.
+/// Where it is put in main.
 const MAIN: Position = Position {
     block: 1,
     at: 600,

@@ -1,5 +1,5 @@
 //! The lines sent to a client. Each ends with a carriage return and a line feed.
-ghost use Rattle.std.specs.Prelude.{◌≡◌, ◌+◌, ◌*◌, ◌<◌, ◌≤◌, ◌++◌, codes, length, Err};
+ghost use Rattle.std.specs.Prelude.{◌≡◌, ◌+◌, ◌*◌, ◌<◌, ◌≤◌, ◌++◌, length, Err};
 ghost use Rattle.arrayvec.specs.ArrayVec.{array_vec_len};
 ghost use Rattle.loconet_tcp.specs.ClientLines.{line_end, receive_text, sent_ok_text, reason_text, sent_error_text, place_error_text, place_text, change_line, device_text, fail_error_text, fail_text, mount_error_text, mount_text, turns_error_text, turns_ok_text, turns_text, node_text, states_ok_text, state_text, version_text, server_full_text};
 

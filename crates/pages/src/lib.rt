@@ -1,7 +1,7 @@
 //! What pages are told: the states of the decoders, the plan and its trains, and what messages say.
 //!
 //! An [`Updates`] tracks what the page of each client has not received of these states, and sends it
-//! to the [`Clients`] of a server that are pages, as they are [`Shown`]. A [`PageText`] adds to the
+//! to the [`Clients`] of a server that are pages, of what is [`Shown`]. A [`PageText`] adds to the
 //! text of the bus the words of each message.
 //!
 //! ```ignore

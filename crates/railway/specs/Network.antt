@@ -223,8 +223,9 @@ turnouts_of states = map (λ state. state.turnout) states
 abbrev pub are_few : Network → Bool
 are_few network = nat_le (length network.blocks) 64 && nat_le (length network.turnouts) 64
 
--- a network of a plan without faults: blocks have their lengths, no sensor is used twice, joints and
--- turnouts join ends of its blocks, and no end is named twice
+-- a network of a plan without faults: its blocks and turnouts are at most 64 each, blocks have their
+-- lengths, no sensor is used twice, joints and turnouts join ends of its blocks, and no end is named
+-- twice
 abbrev pub is_sound : Network → Bool
 is_sound network =
     are_few network && list_all is_block network.blocks && are_distinct network.blocks

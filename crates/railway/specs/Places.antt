@@ -21,8 +21,8 @@ left_to B length at = length - 1 - at
 abbrev pub to_end : (length : ℕ) → Place → ℕ
 to_end length place = left_to place.toward length place.at
 
--- How far a place is from end a, in femtometres, at most 2 ^ 64 - 1. Its own femtometre counts if it
--- faces end b.
+-- How far a place is from end A, in femtometres, at most 2 ^ 64 - 1. Its own femtometre counts if it
+-- faces end B.
 abbrev pub way_from_a : (facing : End) → (at : ℕ) → ℕ
 way_from_a A at = at
 way_from_a B at = min (at + 1) 0xFFFFFFFFFFFFFFFF

@@ -162,7 +162,8 @@ impl Railway {
         ensures part { result ≤ micros }
         ensures piece { IsTrue (is_piece world.now.station.powered.power result self.now.network) }
         ensures seen { (block : ℕ) → block < length self.now.network.blocks
-            → is_sensed_through world.now.station.powered.power result world.now.nodes self.now block
+            → is_sensed_through world.now.station.powered.power result world.now.nodes self.now
+            block
             ≡ (is_sensed self.now block || is_sensed
             (run_through world.now.station.powered.power result world.now.nodes self.now) block) }
     {
@@ -262,7 +263,8 @@ impl Railway {
     fn changes_through(&self, before: BlockSet, since: BlockSet) -> Reports
         ensures reports { (was sensed : (block : ℕ) → Bool) → AreMarked was before
             → AreBlocksMarked self.now.network.blocks sensed since
-            → result.items ≡ changes_through self.now.network.blocks was sensed (is_sensed self.now) }
+            → result.items
+            ≡ changes_through self.now.network.blocks was sensed (is_sensed self.now) }
         ensures sensors { IsTrue (list_all is_report result.items) }
     {
         let track = &self.track;

@@ -66,8 +66,8 @@ pub(crate) fn changes(blocks: &[Block], was: BlockSet, is: BlockSet) -> Reports
 }
 
 /// Returns what the sensors report that found the first blocks occupied before, the second at a moment
-/// of a time, and now find the third: first the sensors whose block was free
-/// before and then occupied, then those whose block was occupied and now is free.
+/// of a time, and now find the third: first the sensors whose block was free before and then occupied,
+/// then those whose block was occupied and now is free.
 #[tactic(auto, using(crate::proofs::Occupying::none_through, crate::proofs::Occupying::few_changes))]
 pub(crate) fn changes_through(
     blocks: &[Block],

@@ -54,7 +54,7 @@ impl SlotTable {
         Ok(n)
     }
 
-    // Gives a slot, which the call answers, this state. Refused unless it is not free.
+    // Gives a slot, which the call answers, this state. Refused where it is free.
     fn set_state(&mut self, n: u8, state: State) -> Result<u8, SlotFault>
         requires { is_held state ≡ true }
         ensures { GivesSlot (slot_if (is_placed self.old n) n)

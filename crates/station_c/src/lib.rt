@@ -6,7 +6,7 @@
 //! `bindings/station.h` states the obligations of the caller.
 #![tactic(auto)]
 
-ghost use Rattle.std.specs.Prelude.{◌≡◌, ◌≢◌, ◌⊎◌, ◌==◌, ◌&&◌, nat_lt, if◌then◌else◌, Some, None, IfSome, true, false, length, map, option_map};
+ghost use Rattle.std.specs.Prelude.{◌≡◌, ◌≢◌, ◌⊎◌, ◌==◌, ◌&&◌, nat_lt, Some, None, IfSome, true, false, length, map, option_map};
 ghost use Rattle.std.specs.List.{list_all};
 ghost use Rattle.station_core.specs.Seen.{known_of};
 ghost use Rattle.layout_core.specs.Cycle.{RunsAfterNoise, RunsAsWanted};
