@@ -9,7 +9,7 @@ ghost use Rattle.server_orders.specs.declared.words.ServerOrder.{ServerOrder as 
 ghost use Rattle.server_orders.specs.ServerLine.{AreCompatible, AreCompatibleFor, AreHosts, AreSettings, IsDefaultOrder, IsNumberIfGiven, IsServerFault, IsServerOrder, IsServerOrderOf, is_host_byte, is_host_name, server_app};
 
 use crate::shares::shares;
-use crate::table::LBSERVER;
+use crate::table::lbserver;
 use crate::words::{ServerOrder, Settings};
 use clap::ArgMatches;
 use clap::error::ErrorKind;
@@ -45,7 +45,7 @@ fn number_if_given(
 fn out_of_range(alloc: Global) -> OrderFault
     ensures { IsOfKind ErrorKind.ValueValidation result }
 {
-    command_line::out_of_range(alloc, &LBSERVER)
+    command_line::out_of_range(alloc, lbserver())
 }
 
 // Clap accepts any text as an address.
@@ -54,7 +54,7 @@ fn no_address(alloc: Global) -> OrderFault
 {
     wrong_value(
         alloc,
-        &LBSERVER,
+        lbserver(),
         "the address is no IPv4 address, as 127.0.0.1 is",
     )
 }
@@ -63,7 +63,7 @@ fn no_address(alloc: Global) -> OrderFault
 pub fn not_utf8_server_text(alloc: Global) -> OrderFault
     ensures { IsOfKind ErrorKind.InvalidValue result }
 {
-    not_utf8(alloc, &LBSERVER)
+    not_utf8(alloc, lbserver())
 }
 
 /// Returns the names of the repeated option `--host`. One that is no host name is a fault.
@@ -132,7 +132,7 @@ fn no_host_name(alloc: Global) -> OrderFault
 {
     wrong_value(
         alloc,
-        &LBSERVER,
+        lbserver(),
         "the host is no name: letters, digits, hyphens and dots, without a port",
     )
 }
@@ -141,21 +141,21 @@ fn no_host_name(alloc: Global) -> OrderFault
 fn no_roster(alloc: Global) -> OrderFault
     ensures { IsOfKind ErrorKind.ValueValidation result }
 {
-    wrong_value(alloc, &LBSERVER, "--plan needs --roster")
+    wrong_value(alloc, lbserver(), "--plan needs --roster")
 }
 
 // A file without a page.
 fn no_page(alloc: Global) -> OrderFault
     ensures { IsOfKind ErrorKind.ValueValidation result }
 {
-    wrong_value(alloc, &LBSERVER, "--page-file needs --page")
+    wrong_value(alloc, lbserver(), "--page-file needs --page")
 }
 
 // A rate beside turns after messages.
 fn two_paces(alloc: Global) -> OrderFault
     ensures { IsOfKind ErrorKind.ValueValidation result }
 {
-    wrong_value(alloc, &LBSERVER, "--rate cannot be used with --turns")
+    wrong_value(alloc, lbserver(), "--rate cannot be used with --turns")
 }
 
 /// Checks that a plan has a roster, that the file of a page has a page, and that a rate is not
@@ -290,6 +290,6 @@ pub fn server_order<'a>(alloc: Global, words: &'a [&'a str]) -> Result<ServerOrd
     ensures requested { IfErr result
         (IsRequestedBy (fault_of server_app (map (λ word. word.now) words.entry.now))) }
 {
-    let matches = matches_of(alloc, &LBSERVER, words)?;
+    let matches = matches_of(alloc, lbserver(), words)?;
     matched(alloc, &matches)
 }

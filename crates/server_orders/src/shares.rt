@@ -7,7 +7,7 @@ ghost use Rattle.std.specs.Prelude.{codes};
 ghost use Rattle.server_orders.specs.Shares.{all_given, AreShares, AreSharesOf, IsShare, are_distinct, decoder_in, decoder_of, is_same_decoder, number_in, share_for, share_of};
 
 use crate::share::Share;
-use crate::table::LBSERVER;
+use crate::table::lbserver;
 use clap::ArgMatches;
 use clap::error::ErrorKind;
 use command_line::{OrderFault, repeated, wrong_value};
@@ -133,7 +133,7 @@ fn no_share(alloc: Global) -> OrderFault
 {
     wrong_value(
         alloc,
-        &LBSERVER,
+        lbserver(),
         "--lose is followed by N or NAME=N, with N in 0..=99",
     )
 }
@@ -143,7 +143,7 @@ fn named_twice(alloc: Global) -> OrderFault
 {
     wrong_value(
         alloc,
-        &LBSERVER,
+        lbserver(),
         "--lose is given twice for one decoder, or twice without a name",
     )
 }

@@ -1,9 +1,18 @@
 //! What the command line of `lbserver` may hold.
+ghost use Rattle.std.specs.Prelude.{◌≡◌};
+ghost use Rattle.command_line.specs.CommandLine.{program_app};
+ghost use Rattle.server_orders.specs.ServerLine.{server_app};
 
 use command_line::{Argument, CommandText, Kind, Need, ProgramText, ROSTER};
 
-/// The program.
-pub(crate) const LBSERVER: ProgramText<'static, 'static> = ProgramText {
+/// Returns the table of the program.
+pub(crate) fn lbserver() -> &'static ProgramText<'static, 'static>
+    ensures { program_app result.now ≡ server_app }
+{
+    &LBSERVER
+}
+
+static LBSERVER: ProgramText<'static, 'static> = ProgramText {
     command: CommandText {
         name: "lbserver",
         about: "A LocoNet command station for clients of LocoNet over TCP, up to eight at once",
