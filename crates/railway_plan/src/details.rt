@@ -3,8 +3,8 @@ ghost use Rattle.std.specs.Prelude.{◌≡◌, option_map};
 ghost use Rattle.std.specs.List.{list_all};
 ghost use Rattle.railway_plan.specs.Details.{is_printable, is_shown, shown};
 
-use crate::bounds::{Bounds, TRAIN_LENGTH};
-use crate::fault::{PlanTextFault, Reason, Section};
+use crate::bounds::TRAIN_LENGTH;
+use crate::fault::{PlanTextFault, Reason, Section, write_bounds};
 use crate::key::Key;
 use arrayvec::ArrayString;
 use std::fmt;
@@ -83,18 +83,25 @@ pub(crate) fn shown(text: Option<&str>) -> Option<Word>
     Word::from(text).ok()
 }
 
+/// Returns the key of the value that two parts have in common.
+fn shared_key(why: Reason) -> Option<Key> {
+    match why {
+        Reason::RepeatedName => Some(Key::Name),
+        Reason::RepeatedSensor => Some(Key::Sensor),
+        Reason::RepeatedDecoder => Some(Key::Decoder),
+        _ => None,
+    }
+}
+
 /// Writes what is wrong with a part that has the same as another.
 fn write_repeated<W: fmt::Write>(
     why: Reason,
-    other: Option<Section>,
+    other: Section,
     f: &mut fmt::Formatter<W>,
 ) -> fmt::Result {
-    match (why, other) {
-        (Reason::RepeatedName, Some(other)) => write!(f, "{other} has this name too"),
-        (Reason::RepeatedSensor, Some(other)) => write!(f, "{other} has this sensor too"),
-        (Reason::RepeatedDecoder, Some(other)) => write!(f, "{other} has this decoder too"),
-        (Reason::RepeatedEnd(_), Some(other)) => write!(f, "{why}, last by {other}"),
-        _ => write!(f, "{why}"),
+    match shared_key(why) {
+        Some(key) => write!(f, "{other} has this {key} too"),
+        None => write!(f, "{why}, last by {other}"),
     }
 }
 
@@ -114,10 +121,7 @@ fn write_train<W: fmt::Write>(why: Reason, f: &mut fmt::Formatter<W>) -> fmt::Re
         // `block` is a key of the plan, and one of a train.
         Reason::BadKey(Key::Block) => f.write_str("block must be the name of a block"),
         // So is `length`.
-        Reason::BadKey(Key::Length) => {
-            let Bounds { least, most } = TRAIN_LENGTH;
-            write!(f, "length must be {least} to {most}")
-        }
+        Reason::BadKey(Key::Length) => write_bounds(Key::Length, TRAIN_LENGTH, f),
         Reason::NoDecoder => f.write_str("its decoder is not of a locomotive"),
         _ => write!(f, "{why}"),
     }
@@ -137,14 +141,23 @@ impl LocatedFault {
     /// Writes what is wrong.
     fn write_reason<W: fmt::Write>(&self, f: &mut fmt::Formatter<W>) -> fmt::Result {
         let why = self.fault.why;
-        match (self.fault.section, &self.fault.names, &self.details.word) {
-            (_, Some(names), _) => {
+        match (&self.fault.names, &self.details.word) {
+            (Some(names), _) => {
                 let block = names.block.as_str();
                 write!(f, "{why} (block {block})")
             }
-            (_, None, Some(word)) => write_word(why, word, f),
-            (Section::Train(_), None, None) if self.details.other.is_none() => write_train(why, f),
-            (_, None, None) => write_repeated(why, self.details.other, f),
+            (None, Some(word)) => write_word(why, word, f),
+            (None, None) => self.write_kind(f),
+        }
+    }
+
+    /// Writes what is wrong if no word of the text is.
+    fn write_kind<W: fmt::Write>(&self, f: &mut fmt::Formatter<W>) -> fmt::Result {
+        let why = self.fault.why;
+        match (self.details.other, self.fault.section) {
+            (Some(other), _) => write_repeated(why, other, f),
+            (None, Section::Train(_)) => write_train(why, f),
+            (None, _) => write!(f, "{why}"),
         }
     }
 }

@@ -79,7 +79,11 @@ pub struct TrainNames {
 }
 
 /// Writes between which numbers that at a key must be.
-fn write_bounds<W: fmt::Write>(key: Key, bounds: Bounds, f: &mut fmt::Formatter<W>) -> fmt::Result {
+pub(crate) fn write_bounds<W: fmt::Write>(
+    key: Key,
+    bounds: Bounds,
+    f: &mut fmt::Formatter<W>,
+) -> fmt::Result {
     let (least, most) = (bounds.least, bounds.most);
     write!(f, "{key} must be {least} to {most}")
 }
@@ -169,27 +173,51 @@ pub(crate) fn text_fault(roster: &Roster, fault: PlanFault) -> PlanTextFault
     }
 }
 
+/// Returns between which numbers that at a key must be; none at a key of another value.
+fn bounds_of(key: Key) -> Option<Bounds> {
+    match key {
+        Key::Length => Some(LENGTH),
+        Key::Sensor => Some(SENSOR),
+        Key::Switch => Some(SWITCH),
+        Key::Front => Some(FRONT),
+        Key::Speed => Some(SPEED),
+        Key::Time => Some(TIME),
+        Key::Acceleration | Key::Braking => Some(RATE),
+        _ => None,
+    }
+}
+
+/// Returns what the value at a key without bounds must be.
+fn demand_of(key: Key) -> &'static str {
+    match key {
+        Key::Version => "1",
+        Key::Block | Key::Joint | Key::Turnout | Key::Train => "an array of tables",
+        Key::Name => "1 to 32 ASCII letters, digits, - or _",
+        Key::Decoder => "a name of the roster",
+        Key::Feedback => "true or false",
+        Key::A | Key::B => "two numbers from -10000 to 10000",
+        Key::Ends => "two ends of blocks",
+        Key::Common | Key::Closed | Key::Thrown => "an end of a block",
+        Key::Facing => "a or b",
+        Key::Length
+        | Key::Sensor
+        | Key::Switch
+        | Key::Front
+        | Key::Speed
+        | Key::Time
+        | Key::Acceleration
+        | Key::Braking => "",
+    }
+}
+
 /// Writes what the value at a key must be.
 fn write_demand<W: fmt::Write>(key: Key, f: &mut fmt::Formatter<W>) -> fmt::Result {
-    match key {
-        Key::Version => f.write_str("version must be 1"),
-        Key::Block | Key::Joint | Key::Turnout | Key::Train => {
-            write!(f, "{key} must be an array of tables")
+    match bounds_of(key) {
+        Some(bounds) => write_bounds(key, bounds, f),
+        None => {
+            let demand = demand_of(key);
+            write!(f, "{key} must be {demand}")
         }
-        Key::Name => f.write_str("name must be 1 to 32 ASCII letters, digits, - or _"),
-        Key::Decoder => f.write_str("decoder must be a name of the roster"),
-        Key::Length => write_bounds(key, LENGTH, f),
-        Key::Sensor => write_bounds(key, SENSOR, f),
-        Key::Switch => write_bounds(key, SWITCH, f),
-        Key::Front => write_bounds(key, FRONT, f),
-        Key::Speed => write_bounds(key, SPEED, f),
-        Key::Time => write_bounds(key, TIME, f),
-        Key::Feedback => f.write_str("feedback must be true or false"),
-        Key::Acceleration | Key::Braking => write_bounds(key, RATE, f),
-        Key::A | Key::B => write!(f, "{key} must be two numbers from -10000 to 10000"),
-        Key::Ends => f.write_str("ends must be two ends of blocks"),
-        Key::Common | Key::Closed | Key::Thrown => write!(f, "{key} must be an end of a block"),
-        Key::Facing => f.write_str("facing must be a or b"),
     }
 }
 
@@ -228,12 +256,13 @@ impl fmt::Display for Reason {
 
 impl fmt::Display for Section {
     fn fmt<W: fmt::Write>(&self, f: &mut fmt::Formatter<W>) -> fmt::Result {
-        match self {
-            Section::Whole => f.write_str("the plan"),
-            Section::Block(number) => write!(f, "block {number}"),
-            Section::Joint(number) => write!(f, "joint {number}"),
-            Section::Turnout(number) => write!(f, "turnout {number}"),
-            Section::Train(number) => write!(f, "train {number}"),
-        }
+        let (kind, number) = match *self {
+            Section::Whole => return f.write_str("the plan"),
+            Section::Block(number) => (Key::Block, number),
+            Section::Joint(number) => (Key::Joint, number),
+            Section::Turnout(number) => (Key::Turnout, number),
+            Section::Train(number) => (Key::Train, number),
+        };
+        write!(f, "{kind} {number}")
     }
 }
