@@ -6,7 +6,7 @@ ghost use Rattle.station_orders.specs.Fault.{IsOrderFault, refusals};
 ghost use Rattle.station_orders.specs.Order.{IsMatched, IsOrder, IsOrderOf};
 ghost use Rattle.station_orders.specs.StationLine.{station_app};
 
-use crate::table::STATION;
+use crate::table::station;
 use crate::words::Order;
 use clap::ArgMatches;
 use clap::error::ErrorKind;
@@ -17,14 +17,14 @@ use std::alloc::Global;
 fn out_of_range(alloc: Global) -> OrderFault
     ensures { IsOfKind ErrorKind.ValueValidation result }
 {
-    command_line::out_of_range(alloc, &STATION)
+    command_line::out_of_range(alloc, station())
 }
 
 /// Returns the text for an argument that is not UTF-8, followed by the usage.
 pub fn no_text(alloc: Global) -> OrderFault
     ensures { IsOfKind ErrorKind.InvalidValue result }
 {
-    not_utf8(alloc, &STATION)
+    not_utf8(alloc, station())
 }
 
 fn replay(alloc: Global, found: &ArgMatches<'_>) -> Result<Order, OrderFault>
@@ -125,6 +125,6 @@ pub fn order<'a>(alloc: Global, words: &'a [&'a str]) -> Result<Order, OrderFaul
             roster: None,
         });
     }
-    let matches = matches_of(alloc, &STATION, words)?;
+    let matches = matches_of(alloc, station(), words)?;
     matched(alloc, &matches)
 }

@@ -1,9 +1,18 @@
 //! What the command line of `station` may hold.
+ghost use Rattle.std.specs.Prelude.{◌≡◌};
+ghost use Rattle.command_line.specs.CommandLine.{program_app};
+ghost use Rattle.station_orders.specs.StationLine.{station_app};
 
 use command_line::{Argument, CommandText, Kind, Need, ProgramText, ROSTER};
 
-/// The program, which requires a subcommand.
-pub(crate) const STATION: ProgramText<'static, 'static> = ProgramText {
+/// Returns the table of the program, which requires a subcommand.
+pub(crate) fn station() -> &'static ProgramText<'static, 'static>
+    ensures { program_app result.now ≡ station_app }
+{
+    &STATION
+}
+
+static STATION: ProgramText<'static, 'static> = ProgramText {
     command: CommandText {
         name: "station",
         about: "A LocoNet command station, with the DCC decoders on its track",
