@@ -1,25 +1,31 @@
 -- The text that a number selects, and its length.
-use Rattle.std.proofs.Common.{◌≡◌, ℕ, zero, suc, ◌<◌, ◌≤◌, List, [], ◌∷◌, length, get_or, refl, arith}
+use Rattle.std.proofs.Common.{◌≡◌, ℕ, zero, suc, ◌+◌, ◌≤◌, Bool, true, false, List, [], ◌∷◌, length, if◌then◌else◌, max, arith}
 use Rattle.std.proofs.Math.Nat.{le-max_left, le-max_right}
-use Rattle.std.specs.Borrow.{Bor}
-use Rattle.describe.specs.Rows.{choice_text, longest}
+use Rattle.describe.specs.Rows.{choice_text, is_bar, longest, longest_after}
 
-pub choice_at : (texts : List (Bor (List ℕ))) (n : ℕ) (d : Bor (List ℕ)) → n < length texts → choice_text texts n ≡ (get_or texts n d).now
-unfolding choice_text
-choice_at [] n d h = absurd (omega arith)
-choice_at (text ∷ texts) zero d h = refl
-choice_at (text ∷ texts) (suc n) d h = choice_at texts n d (omega arith)
+first_by : (bar : Bool) (begun byte : ℕ) (text : List ℕ) (here later : ℕ) → (begun ≤ max begun here) → suc begun + length text ≤ later
+    → begun + length (if bar then [] else byte ∷ text) ≤ (if bar then max begun here else later)
+first_by true begun byte text here later e f = omega (arith, e)
+first_by false begun byte text here later e f = omega (arith, f)
 
-pub choice_past : (texts : List (Bor (List ℕ))) (n : ℕ) → length texts ≤ n → choice_text texts n ≡ []
-unfolding choice_text
-choice_past [] n h = refl
-choice_past (text ∷ texts) zero h = absurd (omega arith)
-choice_past (text ∷ texts) (suc n) h = choice_past texts n (omega arith)
+-- the first text, of which some bytes were counted before
+first_length : (begun : ℕ) (texts : List ℕ) → begun + length (choice_text texts 0) ≤ longest_after begun texts
+unfolding choice_text longest_after
+first_length begun [] = omega arith
+first_length begun (byte ∷ texts) =
+    first_by (is_bar byte) begun byte (choice_text texts 0) (longest_after 0 texts) (longest_after (suc begun) texts) (le-max_left begun (longest_after 0 texts)) (first_length (suc begun) texts)
 
-pub longest_at : (texts : List (Bor (List ℕ))) (n : ℕ) (d : Bor (List ℕ)) → n < length texts → length (get_or texts n d).now ≤ longest texts
-unfolding longest
-longest_at [] n d h = absurd (omega arith)
-longest_at (text ∷ texts) zero d h = le-max_left (length text.now) (longest texts)
-longest_at (text ∷ texts) (suc n) d h =
-    let rest : length (get_or texts n d).now ≤ longest texts = longest_at texts n d (omega arith) in
-    omega (arith, rest, le-max_right (length text.now) (longest texts))
+next_by : (bar : Bool) (begun : ℕ) (text other : List ℕ) (here later : ℕ) → length text ≤ here → here ≤ max begun here → length other ≤ later
+    → length (if bar then text else other) ≤ (if bar then max begun here else later)
+next_by true begun text other here later e f g = omega (arith, e, f)
+next_by false begun text other here later e f g = g
+
+any_length : (begun : ℕ) (texts : List ℕ) (n : ℕ) → length (choice_text texts n) ≤ longest_after begun texts
+unfolding choice_text longest_after
+any_length begun texts zero = omega (arith, first_length begun texts)
+any_length begun [] (suc n) = omega arith
+any_length begun (byte ∷ texts) (suc n) =
+    next_by (is_bar byte) begun (choice_text texts n) (choice_text texts (suc n)) (longest_after 0 texts) (longest_after (suc begun) texts) (any_length 0 texts n) (le-max_right begun (longest_after 0 texts)) (any_length (suc begun) texts (suc n))
+
+pub choice_length : (texts : List ℕ) (n : ℕ) → length (choice_text texts n) ≤ longest texts
+choice_length texts n = any_length 0 texts n

@@ -7,20 +7,17 @@ use Rattle.describe.specs.declared.rows.Part.{Part}
 use Rattle.describe.specs.declared.rows.Part.TheVariants.{Text, Number, Hex, Choice, On}
 use Rattle.describe.specs.Fields.{value_of}
 use Rattle.describe.specs.Pieces.{hex_pair, states_words}
-use Rattle.describe.specs.Rows.{Phrase, Row, applies, choice_text, made_text, parts_of, parts_text, row_text}
+use Rattle.describe.specs.Rows.{Phrase, Row, applies, part_text, parts_of, parts_text, row_text}
 
--- a part and its texts, and a row, without the addresses of the texts
+-- a part and its text, and a row, without the addresses of the texts
 abbrev PlainSaid : Type 0
-PlainSaid = Part × List (List ℕ)
+PlainSaid = Part × List ℕ
 
 abbrev PlainRow : Type 0
 PlainRow = List (Field × ℕ) × List PlainSaid
 
-abbrev plain_texts : List (Bor (List ℕ)) → List (List ℕ)
-plain_texts = map (λ text. text.now)
-
 abbrev plain_said : Phrase → PlainSaid
-plain_said said = (said.0, plain_texts said.1.now)
+plain_said said = (said.0, said.1.now)
 
 abbrev plain_row : Row → PlainRow
 plain_row row = (row.0.now, map plain_said row.1.now)
@@ -29,11 +26,8 @@ abbrev pub plain : List Row → List PlainRow
 plain = map plain_row
 
 -- the same texts, without addresses
-abbrev placed_texts : List (List ℕ) → List (Bor (List ℕ))
-placed_texts = map (λ text. record { ref_ptr = (0, 0); now = text })
-
 abbrev placed_said : PlainSaid → Phrase
-placed_said said = (said.0, record { ref_ptr = (0, 0); now = placed_texts said.1 })
+placed_said said = (said.0, record { ref_ptr = (0, 0); now = said.1 })
 
 abbrev placed_row : PlainRow → Row
 placed_row row = (record { ref_ptr = (0, 0); now = row.0 }, record { ref_ptr = (0, 0); now = map placed_said row.1 })
@@ -41,23 +35,10 @@ placed_row row = (record { ref_ptr = (0, 0); now = row.0 }, record { ref_ptr = (
 abbrev placed : List PlainRow → List Row
 placed = map placed_row
 
-same_choice : (texts : List (Bor (List ℕ))) (n : ℕ) → choice_text texts n ≡ choice_text (placed_texts (plain_texts texts)) n
-unfolding choice_text
-same_choice [] n = refl
-same_choice (text ∷ texts) zero = refl
-same_choice (text ∷ texts) (suc n) = same_choice texts n
-
-same_made : (bytes : List ℕ) (part : Part) (texts : List (Bor (List ℕ))) → made_text bytes part texts ≡ made_text bytes part (placed_texts (plain_texts texts))
-same_made bytes Text texts = same_choice texts 0
-same_made bytes (Number field) texts = ap (λ label. label ++ decimal (value_of field bytes)) (same_choice texts 0)
-same_made bytes (Hex field) texts = ap (λ label. label ++ hex_pair (value_of field bytes % 256)) (same_choice texts 0)
-same_made bytes (Choice field) texts = same_choice texts _
-same_made bytes (On first field) texts = ap (λ label. label ++ states_words first (value_of field bytes)) (same_choice texts 0)
-
 same_parts : (bytes : List ℕ) (parts : List Phrase) → parts_text bytes parts ≡ parts_text bytes (map placed_said (map plain_said parts))
 unfolding parts_text
 same_parts bytes [] = refl
-same_parts bytes (said ∷ parts) = ap₂ (λ text more. text ++ more) (same_made bytes said.0 said.1.now) (same_parts bytes parts)
+same_parts bytes (said ∷ parts) = ap (λ more. part_text bytes said ++ more) (same_parts bytes parts)
 
 same_choices : (bytes : List ℕ) (test : Bool) (here there : List Phrase) (rest others : List Phrase)
     → parts_text bytes here ≡ parts_text bytes there → parts_text bytes rest ≡ parts_text bytes others

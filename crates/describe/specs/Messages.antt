@@ -182,10 +182,10 @@ op_words op = []
 
 -- the tables of src/message_rows.rt and src/maker_rows.rt
 abbrev pub message_rows : List Row
-message_rows = map (λ row. (at row.0.now, at (map (λ said. (said.0, at (map (λ text. at text.now) said.1.now))) row.1.now))) messages
+message_rows = map (λ row. (at row.0.now, at (map (λ said. (said.0, at said.1.now)) row.1.now))) messages
 
 abbrev pub maker_rows : List Row
-maker_rows = map (λ row. (at row.0.now, at (map (λ said. (said.0, at (map (λ text. at text.now) said.1.now))) row.1.now))) maker_messages
+maker_rows = map (λ row. (at row.0.now, at (map (λ said. (said.0, at said.1.now)) row.1.now))) maker_messages
 
 unfoldable pub standard_words : List ℕ → List ℕ
 standard_words bytes = row_text message_rows bytes

@@ -72,10 +72,10 @@ instr_words (Accessory number pair closed on) = switch_words (4 * (number - 1) +
 
 -- the tables of src/packet_rows.rt
 abbrev pub instruction_rows : List Row
-instruction_rows = map (λ row. (at row.0.now, at (map (λ said. (said.0, at (map (λ text. at text.now) said.1.now))) row.1.now))) instructions
+instruction_rows = map (λ row. (at row.0.now, at (map (λ said. (said.0, at said.1.now)) row.1.now))) instructions
 
 abbrev pub accessory_rows : List Row
-accessory_rows = map (λ row. (at row.0.now, at (map (λ said. (said.0, at (map (λ text. at text.now) said.1.now))) row.1.now))) accessories
+accessory_rows = map (λ row. (at row.0.now, at (map (λ said. (said.0, at said.1.now)) row.1.now))) accessories
 
 -- an instruction to a locomotive that no decoder of this project obeys, by its bytes, the check
 -- last: by the table

@@ -9,32 +9,36 @@ use Rattle.describe.specs.declared.rows.Part.TheVariants.{Text, Number, Hex, Cho
 use Rattle.describe.specs.Fields.{value_of}
 use Rattle.describe.specs.Pieces.{hex_pair, states_words}
 
--- the text at this index, and nothing after the last
-unfoldable pub choice_text : List (Bor (List ℕ)) → ℕ → List ℕ
+-- the byte between the texts of a choice
+abbrev pub is_bar : ℕ → Bool
+is_bar byte = byte == 124
+
+-- the text at this index of those between bars, and nothing after the last
+unfoldable pub choice_text : List ℕ → ℕ → List ℕ
 choice_text [] n = []
-choice_text (text ∷ texts) zero = text.now
-choice_text (text ∷ texts) (suc n) = choice_text texts n
+choice_text (byte ∷ texts) zero = if is_bar byte then [] else byte ∷ choice_text texts zero
+choice_text (byte ∷ texts) (suc n) = if is_bar byte then choice_text texts n else choice_text texts (suc n)
 
 -- the text of a constant, wherever it is in memory
 abbrev pub at : {X : Type 0} → X → Bor X
 at x = record { ref_ptr = (0, 0); now = x }
 
--- how a part is made, and its texts
+-- how a part is made, and its text
 abbrev pub Phrase : Type 0
-Phrase = Part × Bor (List (Bor (List ℕ)))
+Phrase = Part × Bor (List ℕ)
 
 -- the values that fields must have, and the explanation
 abbrev pub Row : Type 0
 Row = Bor (List (Field × ℕ)) × Bor (List Phrase)
 
--- a part: its text, with a field in decimal or hexadecimal digits or the functions that are on; or a
--- text that a field selects
-abbrev pub made_text : List ℕ → Part → List (Bor (List ℕ)) → List ℕ
-made_text bytes Text texts = choice_text texts 0
-made_text bytes (Number field) texts = choice_text texts 0 ++ decimal (value_of field bytes)
-made_text bytes (Hex field) texts = choice_text texts 0 ++ hex_pair (value_of field bytes % 256)
+-- a part: its text, with a field in decimal or hexadecimal digits or the functions that are on; or the
+-- one of its texts that a field selects
+abbrev pub made_text : List ℕ → Part → List ℕ → List ℕ
+made_text bytes Text text = text
+made_text bytes (Number field) text = text ++ decimal (value_of field bytes)
+made_text bytes (Hex field) text = text ++ hex_pair (value_of field bytes % 256)
 made_text bytes (Choice field) texts = choice_text texts (value_of field bytes)
-made_text bytes (On first field) texts = choice_text texts 0 ++ states_words first (value_of field bytes)
+made_text bytes (On first field) text = text ++ states_words first (value_of field bytes)
 
 abbrev pub part_text : List ℕ → Phrase → List ℕ
 part_text bytes said = made_text bytes said.0 said.1.now
@@ -56,18 +60,21 @@ parts_of (row ∷ rows) bytes = if applies row.0.now bytes then row.1.now else p
 abbrev pub row_text : List Row → List ℕ → List ℕ
 row_text rows bytes = parts_text bytes (parts_of rows bytes)
 
--- the greatest length of one of these texts
-unfoldable pub longest : List (Bor (List ℕ)) → ℕ
-longest [] = 0
-longest (text ∷ texts) = max (length text.now) (longest texts)
+-- the greatest length of one of the texts between bars, the first begun with this many bytes
+unfoldable pub longest_after : ℕ → List ℕ → ℕ
+longest_after begun [] = begun
+longest_after begun (byte ∷ texts) = if is_bar byte then max begun (longest_after 0 texts) else longest_after (suc begun) texts
+
+abbrev pub longest : List ℕ → ℕ
+longest texts = longest_after 0 texts
 
 -- the greatest length of a part
-abbrev pub made_most : Part → List (Bor (List ℕ)) → ℕ
-made_most Text texts = longest texts
-made_most (Number field) texts = longest texts + 5
-made_most (Hex field) texts = longest texts + 2
+abbrev pub made_most : Part → List ℕ → ℕ
+made_most Text text = length text
+made_most (Number field) text = length text + 5
+made_most (Hex field) text = length text + 2
 made_most (Choice field) texts = longest texts
-made_most (On first field) texts = longest texts + 59
+made_most (On first field) text = length text + 59
 
 abbrev pub part_most : Phrase → ℕ
 part_most said = made_most said.0 said.1.now

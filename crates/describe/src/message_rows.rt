@@ -8,227 +8,217 @@ use crate::rows::Part::{Choice, Hex, Number, On, Text};
 use crate::rows::Row;
 
 /// The mode of a programmer's task, by bits 2 to 5 of its command.
-const TASK_MODES: [&'static str; 16] = [
-    ", unknown mode",
-    ", unknown mode",
-    ", direct bit mode",
-    ", unknown mode",
-    ", register mode",
-    ", unknown mode",
-    ", unknown mode",
-    ", unknown mode",
-    ", paged mode",
-    ", unknown mode",
-    ", direct byte mode",
-    ", unknown mode",
-    ", register mode",
-    ", unknown mode",
-    ", unknown mode",
-    ", unknown mode",
-];
+const TASK_MODES: &'static str = ", unknown mode|\
+    , unknown mode|\
+    , direct bit mode|\
+    , unknown mode|\
+    , register mode|\
+    , unknown mode|\
+    , unknown mode|\
+    , unknown mode|\
+    , paged mode|\
+    , unknown mode|\
+    , direct byte mode|\
+    , unknown mode|\
+    , register mode|\
+    , unknown mode|\
+    , unknown mode|\
+    , unknown mode";
 
 /// The mode of one on the main track.
-const MAIN_MODES: [&'static str; 4] = [
-    ", bit on the main track",
-    ", bit on the main track, with feedback",
-    ", byte on the main track",
-    ", byte on the main track, with feedback",
-];
+const MAIN_MODES: &'static str = ", bit on the main track|\
+    , bit on the main track, with feedback|\
+    , byte on the main track|\
+    , byte on the main track, with feedback";
 
 /// The explanation of a whole message, by its bytes.
 pub(crate) const MESSAGES: [Row; 52] = [
     // OPC_BUSY
-    (&[(Byte(0), 0x81)], &[(Text, &["busy"])]),
+    (&[(Byte(0), 0x81)], &[(Text, "busy")]),
     // OPC_SW_REP: inputs where bit 6 of SN2 is 1, else outputs
     (
         &[(Byte(0), 0xB1), (Bit(2, 6), 1)],
         &[
-            (Number(Switch), &["turnout "]),
-            (Choice(Bit(2, 5)), &[": aux input ", ": switch input "]),
-            (Choice(Bit(2, 4)), &["low", "high"]),
+            (Number(Switch), "turnout "),
+            (Choice(Bit(2, 5)), ": aux input |: switch input "),
+            (Choice(Bit(2, 4)), "low|high"),
         ],
     ),
     (
         &[(Byte(0), 0xB1)],
         &[
-            (Number(Switch), &["turnout "]),
-            (
-                Choice(Bit(2, 5)),
-                &[": closed output off", ": closed output on"],
-            ),
-            (
-                Choice(Bit(2, 4)),
-                &[", thrown output off", ", thrown output on"],
-            ),
+            (Number(Switch), "turnout "),
+            (Choice(Bit(2, 5)), ": closed output off|: closed output on"),
+            (Choice(Bit(2, 4)), ", thrown output off|, thrown output on"),
         ],
     ),
     // OPC_INPUT_REP
     (
         &[(Byte(0), 0xB2)],
         &[
-            (Number(Sensor), &["sensor "]),
-            (Choice(Bit(2, 4)), &[" low", " high"]),
+            (Number(Sensor), "sensor "),
+            (Choice(Bit(2, 4)), " low| high"),
         ],
     ),
     // OPC_LONG_ACK: the opcode that it answers, without bit 7, and a code
     (
         &[(Byte(0), 0xB4), (Byte(1), 0x3F), (Byte(2), 0)],
-        &[(Text, &["no free slot for the locomotive"])],
+        &[(Text, "no free slot for the locomotive")],
     ),
     (
         &[(Byte(0), 0xB4), (Byte(1), 0x3A), (Byte(2), 0)],
-        &[(Text, &["move of slots refused"])],
+        &[(Text, "move of slots refused")],
     ),
     (
         &[(Byte(0), 0xB4), (Byte(1), 0x39), (Byte(2), 0)],
-        &[(Text, &["link of slots refused"])],
+        &[(Text, "link of slots refused")],
     ),
     (
         &[(Byte(0), 0xB4), (Byte(1), 0x30), (Byte(2), 0)],
-        &[(Text, &["turnout refused"])],
+        &[(Text, "turnout refused")],
     ),
     (
         &[(Byte(0), 0xB4), (Byte(1), 0x3D), (Byte(2), 0)],
-        &[(Text, &["turnout refused"])],
+        &[(Text, "turnout refused")],
     ),
     (
         &[(Byte(0), 0xB4), (Byte(1), 0x3D), (Byte(2), 0x7F)],
-        &[(Text, &["turnout accepted"])],
+        &[(Text, "turnout accepted")],
     ),
     (
         &[(Byte(0), 0xB4), (Byte(1), 0x3C)],
         &[
-            (Text, &["state of the turnout: "]),
-            (Choice(Bit(2, 5)), &["thrown", "closed"]),
+            (Text, "state of the turnout: "),
+            (Choice(Bit(2, 5)), "thrown|closed"),
         ],
     ),
     (
         &[(Byte(0), 0xB4), (Byte(1), 0x6F), (Byte(2), 0x7F)],
-        &[(Text, &["slot data accepted, or programmer: task not known"])],
+        &[(Text, "slot data accepted, or programmer: task not known")],
     ),
     (
         &[(Byte(0), 0xB4), (Byte(1), 0x6F), (Byte(2), 0)],
-        &[(Text, &["slot data refused, or programmer busy"])],
+        &[(Text, "slot data refused, or programmer busy")],
     ),
     (
         &[(Byte(0), 0xB4), (Byte(1), 0x6F), (Byte(2), 1)],
-        &[(Text, &["programmer: task accepted"])],
+        &[(Text, "programmer: task accepted")],
     ),
     (
         &[(Byte(0), 0xB4), (Byte(1), 0x6F), (Byte(2), 0x40)],
-        &[(Text, &["programmer: task accepted, no result follows"])],
+        &[(Text, "programmer: task accepted, no result follows")],
     ),
     // the standard prints the opcodes of a slot write and of a packet with all seven bits set but
     // one, or none
     (
         &[(Byte(0), 0xB4), (Byte(1), 0x7F), (Byte(2), 0x7F)],
-        &[(Text, &["programmer: task not known"])],
+        &[(Text, "programmer: task not known")],
     ),
     (
         &[(Byte(0), 0xB4), (Byte(1), 0x7F), (Byte(2), 0)],
-        &[(Text, &["programmer: busy"])],
+        &[(Text, "programmer: busy")],
     ),
     (
         &[(Byte(0), 0xB4), (Byte(1), 0x7F), (Byte(2), 1)],
-        &[(Text, &["programmer: task accepted"])],
+        &[(Text, "programmer: task accepted")],
     ),
     (
         &[(Byte(0), 0xB4), (Byte(1), 0x7F), (Byte(2), 0x40)],
-        &[(Text, &["programmer: task accepted, no result follows"])],
+        &[(Text, "programmer: task accepted, no result follows")],
     ),
     (
         &[(Byte(0), 0xB4), (Byte(1), 0x6D), (Byte(2), 0x7F)],
-        &[(Text, &["packet for the track accepted"])],
+        &[(Text, "packet for the track accepted")],
     ),
     (
         &[(Byte(0), 0xB4), (Byte(1), 0x6D), (Byte(2), 0)],
-        &[(Text, &["packet for the track refused"])],
+        &[(Text, "packet for the track refused")],
     ),
     (
         &[(Byte(0), 0xB4), (Byte(1), 0x7D), (Byte(2), 0x7F)],
-        &[(Text, &["packet for the track accepted"])],
+        &[(Text, "packet for the track accepted")],
     ),
     (
         &[(Byte(0), 0xB4), (Byte(1), 0x7D), (Byte(2), 0)],
-        &[(Text, &["packet for the track refused"])],
+        &[(Text, "packet for the track refused")],
     ),
     (
         &[(Byte(0), 0xB4), (Byte(2), 0)],
-        &[(Hex(Acknowledged), &["message "]), (Text, &[" refused"])],
+        &[(Hex(Acknowledged), "message "), (Text, " refused")],
     ),
     (
         &[(Byte(0), 0xB4), (Byte(2), 0x7F)],
-        &[(Hex(Acknowledged), &["message "]), (Text, &[" accepted"])],
+        &[(Hex(Acknowledged), "message "), (Text, " accepted")],
     ),
     (
         &[(Byte(0), 0xB4)],
         &[
-            (Hex(Acknowledged), &["message "]),
-            (Number(Byte(2)), &[" answered with "]),
+            (Hex(Acknowledged), "message "),
+            (Number(Byte(2)), " answered with "),
         ],
     ),
     // OPC_CONSIST_FUNC
     (
         &[(Byte(0), 0xB6)],
         &[
-            (Number(Byte(1)), &["slot "]),
-            (On(0, LightAndFour(2)), &[", in a consist: F0 to F4:"]),
+            (Number(Byte(1)), "slot "),
+            (On(0, LightAndFour(2)), ", in a consist: F0 to F4:"),
         ],
     ),
     // OPC_UNLINK_SLOTS, OPC_LINK_SLOTS
     (
         &[(Byte(0), 0xB8)],
         &[
-            (Number(Byte(1)), &["unlink slot "]),
-            (Number(Byte(2)), &[" from slot "]),
+            (Number(Byte(1)), "unlink slot "),
+            (Number(Byte(2)), " from slot "),
         ],
     ),
     (
         &[(Byte(0), 0xB9)],
         &[
-            (Number(Byte(1)), &["link slot "]),
-            (Number(Byte(2)), &[" to slot "]),
+            (Number(Byte(1)), "link slot "),
+            (Number(Byte(2)), " to slot "),
         ],
     ),
     // OPC_SW_STATE
     (
         &[(Byte(0), 0xBC)],
-        &[(Number(Switch), &["ask for the state of turnout "])],
+        &[(Number(Switch), "ask for the state of turnout ")],
     ),
     // OPC_PEER_XFER
     (
         &[(Byte(0), 0xE5), (Byte(1), 0x10)],
         &[
-            (Number(Byte(2)), &["from "]),
-            (Number(PeerDestination), &[" to "]),
-            (Hex(PeerByte(0)), &[": "]),
-            (Hex(PeerByte(1)), &[" "]),
-            (Hex(PeerByte(2)), &[" "]),
-            (Hex(PeerByte(3)), &[" "]),
-            (Hex(PeerByte(4)), &[" "]),
-            (Hex(PeerByte(5)), &[" "]),
-            (Hex(PeerByte(6)), &[" "]),
-            (Hex(PeerByte(7)), &[" "]),
+            (Number(Byte(2)), "from "),
+            (Number(PeerDestination), " to "),
+            (Hex(PeerByte(0)), ": "),
+            (Hex(PeerByte(1)), " "),
+            (Hex(PeerByte(2)), " "),
+            (Hex(PeerByte(3)), " "),
+            (Hex(PeerByte(4)), " "),
+            (Hex(PeerByte(5)), " "),
+            (Hex(PeerByte(6)), " "),
+            (Hex(PeerByte(7)), " "),
         ],
     ),
     (
         &[(Byte(0), 0xE5)],
-        &[(Text, &["peer transfer of another length"])],
+        &[(Text, "peer transfer of another length")],
     ),
     // OPC_SL_RD_DATA and OPC_WR_SL_DATA of slot 0, whose TRK is that of the track
     (
         &[(Byte(0), 0xE7), (Byte(1), 0x0E), (Byte(2), 0)],
         &[
-            (Text, &["slot 0"]),
+            (Text, "slot 0"),
             (
                 Choice(LowTwo(7)),
-                &["; track off", "; track paused", "; track off", "; track on"],
+                "; track off|; track paused|; track off|; track on",
             ),
         ],
     ),
     (
         &[(Byte(0), 0xEF), (Byte(1), 0x0E), (Byte(2), 0)],
-        &[(Text, &["write slot 0"])],
+        &[(Text, "write slot 0")],
     ),
     // fast clock: bit 6 of CLK_CNTRL is 0 if its data is not valid
     (
@@ -238,26 +228,26 @@ pub(crate) const MESSAGES: [Row; 52] = [
             (Byte(2), 0x7B),
             (Bit(10, 6), 0),
         ],
-        &[(Text, &["fast clock: no valid time"])],
+        &[(Text, "fast clock: no valid time")],
     ),
     (
         &[(Byte(0), 0xE7), (Byte(1), 0x0E), (Byte(2), 0x7B)],
         &[
-            (Number(Byte(9)), &["fast clock: day "]),
-            (Number(ClockHour), &[", hour "]),
-            (Number(ClockMinute), &[", minute "]),
-            (Number(Byte(3)), &[", rate "]),
-            (Choice(Byte(3)), &[" (stopped)"]),
+            (Number(Byte(9)), "fast clock: day "),
+            (Number(ClockHour), ", hour "),
+            (Number(ClockMinute), ", minute "),
+            (Number(Byte(3)), ", rate "),
+            (Choice(Byte(3)), " (stopped)"),
         ],
     ),
     (
         &[(Byte(0), 0xEF), (Byte(1), 0x0E), (Byte(2), 0x7B)],
         &[
-            (Number(Byte(9)), &["set the fast clock: day "]),
-            (Number(ClockHour), &[", hour "]),
-            (Number(ClockMinute), &[", minute "]),
-            (Number(Byte(3)), &[", rate "]),
-            (Choice(Byte(3)), &[" (stopped)"]),
+            (Number(Byte(9)), "set the fast clock: day "),
+            (Number(ClockHour), ", hour "),
+            (Number(ClockMinute), ", minute "),
+            (Number(Byte(3)), ", rate "),
+            (Choice(Byte(3)), " (stopped)"),
         ],
     ),
     // programmer: PCMD, of which 0 ends the task and bit 6 is 1 to write
@@ -268,7 +258,7 @@ pub(crate) const MESSAGES: [Row; 52] = [
             (Byte(2), 0x7C),
             (Byte(3), 0),
         ],
-        &[(Text, &["programmer: end the task"])],
+        &[(Text, "programmer: end the task")],
     ),
     (
         &[
@@ -279,10 +269,10 @@ pub(crate) const MESSAGES: [Row; 52] = [
             (Bit(3, 6), 1),
         ],
         &[
-            (Number(TaskValue), &["programmer: write "]),
-            (Number(TaskVariable), &[" to CV "]),
-            (Number(TaskAddress), &[" of locomotive "]),
-            (Choice(MainTask), &MAIN_MODES),
+            (Number(TaskValue), "programmer: write "),
+            (Number(TaskVariable), " to CV "),
+            (Number(TaskAddress), " of locomotive "),
+            (Choice(MainTask), MAIN_MODES),
         ],
     ),
     (
@@ -293,9 +283,9 @@ pub(crate) const MESSAGES: [Row; 52] = [
             (Bit(3, 2), 1),
         ],
         &[
-            (Number(TaskVariable), &["programmer: read CV "]),
-            (Number(TaskAddress), &[" of locomotive "]),
-            (Choice(MainTask), &MAIN_MODES),
+            (Number(TaskVariable), "programmer: read CV "),
+            (Number(TaskAddress), " of locomotive "),
+            (Choice(MainTask), MAIN_MODES),
         ],
     ),
     (
@@ -306,16 +296,16 @@ pub(crate) const MESSAGES: [Row; 52] = [
             (Bit(3, 6), 1),
         ],
         &[
-            (Number(TaskValue), &["programmer: write "]),
-            (Number(TaskVariable), &[" to CV "]),
-            (Choice(Task), &TASK_MODES),
+            (Number(TaskValue), "programmer: write "),
+            (Number(TaskVariable), " to CV "),
+            (Choice(Task), TASK_MODES),
         ],
     ),
     (
         &[(Byte(0), 0xEF), (Byte(1), 0x0E), (Byte(2), 0x7C)],
         &[
-            (Number(TaskVariable), &["programmer: read CV "]),
-            (Choice(Task), &TASK_MODES),
+            (Number(TaskVariable), "programmer: read CV "),
+            (Choice(Task), TASK_MODES),
         ],
     ),
     // its result: PSTAT is 0 if the task was done
@@ -329,67 +319,61 @@ pub(crate) const MESSAGES: [Row; 52] = [
         &[
             (
                 Choice(Bit(3, 6)),
-                &["programmer: read CV ", "programmer: wrote CV "],
+                "programmer: read CV |programmer: wrote CV ",
             ),
-            (Number(TaskVariable), &[]),
-            (Number(TaskValue), &[", value "]),
+            (Number(TaskVariable), ""),
+            (Number(TaskValue), ", value "),
         ],
     ),
     (
         &[(Byte(0), 0xE7), (Byte(1), 0x0E), (Byte(2), 0x7C)],
         &[
-            (Number(TaskVariable), &["programmer: CV "]),
-            (Choice(Bit(3, 6)), &[" not read", " not written"]),
-            (Choice(Bit(4, 0)), &["", ", programming track empty"]),
-            (Choice(Bit(4, 1)), &["", ", no answer to a write"]),
-            (Choice(Bit(4, 2)), &["", ", no answer to a read"]),
-            (Choice(Bit(4, 3)), &["", ", ended by the user"]),
+            (Number(TaskVariable), "programmer: CV "),
+            (Choice(Bit(3, 6)), " not read| not written"),
+            (Choice(Bit(4, 0)), "|, programming track empty"),
+            (Choice(Bit(4, 1)), "|, no answer to a write"),
+            (Choice(Bit(4, 2)), "|, no answer to a read"),
+            (Choice(Bit(4, 3)), "|, ended by the user"),
         ],
     ),
     // options of the command station
     (
         &[(Byte(0), 0xE7), (Byte(1), 0x0E), (Byte(2), 0x7F)],
         &[
-            (Hex(Byte(3)), &["options of the command station: "]),
-            (Hex(Byte(4)), &[" "]),
-            (Hex(Byte(5)), &[" "]),
-            (Hex(Byte(6)), &[" "]),
-            (Hex(Byte(8)), &[" "]),
+            (Hex(Byte(3)), "options of the command station: "),
+            (Hex(Byte(4)), " "),
+            (Hex(Byte(5)), " "),
+            (Hex(Byte(6)), " "),
+            (Hex(Byte(8)), " "),
         ],
     ),
     (
         &[(Byte(0), 0xEF), (Byte(1), 0x0E), (Byte(2), 0x7F)],
         &[
-            (Hex(Byte(3)), &["set the options of the command station: "]),
-            (Hex(Byte(4)), &[" "]),
-            (Hex(Byte(5)), &[" "]),
-            (Hex(Byte(6)), &[" "]),
-            (Hex(Byte(8)), &[" "]),
+            (Hex(Byte(3)), "set the options of the command station: "),
+            (Hex(Byte(4)), " "),
+            (Hex(Byte(5)), " "),
+            (Hex(Byte(6)), " "),
+            (Hex(Byte(8)), " "),
         ],
     ),
     // the other slots above 119
     (
         &[(Byte(0), 0xE7), (Byte(1), 0x0E)],
-        &[(Number(Byte(2)), &["slot "]), (Text, &[", of the system"])],
+        &[(Number(Byte(2)), "slot "), (Text, ", of the system")],
     ),
     (
         &[(Byte(0), 0xEF), (Byte(1), 0x0E)],
-        &[
-            (Number(Byte(2)), &["write slot "]),
-            (Text, &[", of the system"]),
-        ],
+        &[(Number(Byte(2)), "write slot "), (Text, ", of the system")],
     ),
-    (
-        &[(Byte(0), 0xE7)],
-        &[(Text, &["slot data of another length"])],
-    ),
+    (&[(Byte(0), 0xE7)], &[(Text, "slot data of another length")]),
     (
         &[(Byte(0), 0xEF)],
-        &[(Text, &["write slot data of another length"])],
+        &[(Text, "write slot data of another length")],
     ),
     (
         &[(Byte(0), 0xED)],
-        &[(Text, &["packet for the track, of another form"])],
+        &[(Text, "packet for the track, of another form")],
     ),
-    (&[], &[(Hex(Byte(0)), &["unknown opcode "])]),
+    (&[], &[(Hex(Byte(0)), "unknown opcode ")]),
 ];

@@ -245,7 +245,7 @@ fn push_address(words: &mut Words, high: u8, low: u8)
 }
 
 /// The explanation of a whole message by the table of the standard.
-#[tactic(auto, unfolding(crate::specs::Rows::fits, crate::specs::Rows::most_of, crate::specs::Rows::longest))]
+#[tactic(auto, unfolding(crate::specs::Rows::fits, crate::specs::Rows::most_of, crate::specs::Rows::longest_after))]
 fn push_standard(words: &mut Words, bytes: &[u8])
     requires size { length bytes.now ≤ 127 }
     requires room { array_vec_len words.old ≤ 0 }
@@ -255,7 +255,7 @@ fn push_standard(words: &mut Words, bytes: &[u8])
 }
 
 /// The explanation of a whole message by the table of makers.
-#[tactic(auto, unfolding(crate::specs::Rows::fits, crate::specs::Rows::most_of, crate::specs::Rows::longest))]
+#[tactic(auto, unfolding(crate::specs::Rows::fits, crate::specs::Rows::most_of, crate::specs::Rows::longest_after))]
 fn push_maker(words: &mut Words, bytes: &[u8])
     requires size { length bytes.now ≤ 127 }
     requires room { array_vec_len words.old ≤ 0 }

@@ -157,7 +157,7 @@ fn push_instr(words: &mut Words, instr: Instr)
 
 /// An instruction to a locomotive that no decoder of this project obeys, by its bytes, the check
 /// last.
-#[tactic(auto, unfolding(crate::specs::Rows::fits, crate::specs::Rows::most_of, crate::specs::Rows::longest))]
+#[tactic(auto, unfolding(crate::specs::Rows::fits, crate::specs::Rows::most_of, crate::specs::Rows::longest_after))]
 fn push_instruction(words: &mut Words, bytes: &[u8])
     requires size { length bytes.now ≤ 6 }
     requires room { array_vec_len words.old + 250 ≤ 400 }
@@ -167,7 +167,7 @@ fn push_instruction(words: &mut Words, bytes: &[u8])
 }
 
 /// An instruction to accessory decoders that none of this project obeys, by the packet.
-#[tactic(auto, unfolding(crate::specs::Rows::fits, crate::specs::Rows::most_of, crate::specs::Rows::longest))]
+#[tactic(auto, unfolding(crate::specs::Rows::fits, crate::specs::Rows::most_of, crate::specs::Rows::longest_after))]
 fn push_accessory(words: &mut Words, bytes: &[u8])
     requires size { length bytes.now ≤ 6 }
     requires room { array_vec_len words.old + 250 ≤ 400 }

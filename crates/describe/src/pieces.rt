@@ -21,7 +21,7 @@ pub(crate) fn push_text(words: &mut Words, text: &str)
 }
 
 /// Appends a small number in decimal digits, at most 5.
-pub(crate) fn push_number(words: &mut Words, n: u16)
+fn push_number(words: &mut Words, n: u16)
     requires { array_vec_len words.old + 5 ≤ 400 }
     ensures text { words.new.items ≡ words.old.items ++ decimal n }
     ensures len { array_vec_len words.new ≤ array_vec_len words.old + 5 }

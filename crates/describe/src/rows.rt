@@ -4,29 +4,30 @@ ghost use Rattle.arrayvec.specs.ArrayVec.{array_vec_len};
 ghost use Rattle.describe.specs.Rows.{applies, choice_text, fits, longest, most_of, part_text, parts_of, parts_text, part_most, row_text};
 
 use crate::fields::{Field, value_of};
-use crate::pieces::{Words, push_hex, push_number, push_states, push_text};
+use crate::pieces::{Words, push_field, push_hex, push_states, push_text};
 
-/// How a part of an explanation is made, with the texts next to it.
+/// How a part of an explanation is made, with the text next to it.
 #[derive(Clone, Copy)]
 pub(crate) enum Part {
-    /// The first text.
+    /// The text.
     Text,
-    /// The first text, if there is one, and a field in decimal digits.
+    /// The text and a field in decimal digits.
     Number(Field),
-    /// The first text, if there is one, and a field in two hexadecimal digits.
+    /// The text and a field in two hexadecimal digits.
     Hex(Field),
-    /// The text that a field selects, the first at 0, and nothing after the last.
+    /// The text that a field selects of those between bars, the first at 0, and nothing after the
+    /// last.
     Choice(Field),
-    /// The first text, and the names of those of eight functions that are on, or that all are off:
-    /// the number of the first, and the field that holds it in bit 0.
+    /// The text, and the names of those of eight functions that are on, or that all are off: the
+    /// number of the first, and the field that holds it in bit 0.
     On(u8, Field),
 }
 
 /// A field, and the value that it must have.
 pub(crate) type Test = (Field, u16);
 
-/// A part, and its texts.
-pub(crate) type Phrase = (Part, &'static [&'static str]);
+/// A part, and its text.
+pub(crate) type Phrase = (Part, &'static str);
 
 /// A row of a table: the values that fields must have, and the explanation. Rows are tuples,
 /// because clauses see a constant only if none of its own types holds a reference.
@@ -58,16 +59,21 @@ fn parts_of(rows: &[Row], bytes: &[u8]) -> &'static [Phrase]
     &[]
 }
 
-/// Appends the text that a number selects.
-#[tactic(auto, using(crate::proofs::Choices::choice_at, crate::proofs::Choices::choice_past, crate::proofs::Choices::longest_at))]
-fn push_choice(words: &mut Words, texts: &[&str], number: u16)
+/// Appends the text that a number selects of those between bars.
+#[tactic(auto, using(crate::proofs::Choices::choice_length), unfolding(crate::specs::Rows::choice_text))]
+fn push_choice(words: &mut Words, texts: &str, number: u16)
     requires { array_vec_len words.old + longest texts.now ≤ 400 }
     ensures text { words.new.items ≡ words.old.items ++ choice_text texts.now number }
     ensures len { array_vec_len words.new ≤ array_vec_len words.old + longest texts.now }
 {
-    let at = usize::from(number);
-    if at < texts.len() {
-        push_text(words, texts[at]);
+    let mut before = number;
+    for byte in texts.as_bytes() {
+        match (*byte, before) {
+            (b'|', 0) => break,
+            (b'|', _) => before -= 1,
+            (byte, 0) => words.push(byte),
+            _ => {}
+        }
     }
 }
 
@@ -78,20 +84,17 @@ fn push_part(words: &mut Words, said: &Phrase, bytes: &[u8])
     ensures text { words.new.items ≡ words.old.items ++ part_text bytes.now said.now }
     ensures len { array_vec_len words.new ≤ array_vec_len words.old + part_most said.now }
 {
-    let (part, texts) = *said;
+    let (part, text) = *said;
     match part {
-        Part::Text => push_choice(words, texts, 0),
-        Part::Number(field) => {
-            push_choice(words, texts, 0);
-            push_number(words, value_of(field, bytes));
-        }
+        Part::Text => push_text(words, text),
+        Part::Number(field) => push_field(words, text, value_of(field, bytes)),
         Part::Hex(field) => {
-            push_choice(words, texts, 0);
+            push_text(words, text);
             push_hex(words, (value_of(field, bytes) % 256) as u8);
         }
-        Part::Choice(field) => push_choice(words, texts, value_of(field, bytes)),
+        Part::Choice(field) => push_choice(words, text, value_of(field, bytes)),
         Part::On(first, field) => {
-            push_choice(words, texts, 0);
+            push_text(words, text);
             push_states(words, u16::from(first), value_of(field, bytes));
         }
     }
