@@ -1,5 +1,5 @@
 -- Explanations of LocoNet messages in plain words (LocoNet Personal Use Edition 1.0).
-use Rattle.std.specs.Prelude.{ℕ, ◌+◌, ◌-◌, ◌*◌, ◌/◌, ◌%◌, ◌==◌, ◌&&◌, Bool, true, false, nat_lt, nat_le, if◌then◌else◌, List, [], ◌∷◌, ◌++◌, length, map, slice_index, take, codes}
+use Rattle.std.specs.Prelude.{ℕ, ◌+◌, ◌-◌, ◌*◌, ◌/◌, ◌%◌, ◌==◌, ◌&&◌, Bool, true, false, nat_lt, nat_le, if◌then◌else◌, List, [], ◌∷◌, ◌++◌, length, slice_index, take, codes}
 use Rattle.std.specs.Fmt.{decimal}
 use Rattle.ln_frame.specs.Message.{are_data, check_of, has_form, is_whole}
 use Rattle.ln_ops.specs.Fields.{SlotBytes}
@@ -9,11 +9,11 @@ use Rattle.ln_ops.specs.declared.op.Op.{Op}
 use Rattle.ln_ops.specs.declared.op.Op.TheVariants.{PowerOff, PowerOn, ForceIdle, Speed, Dirf, Snd, SwReq, SwAck, LongAck, SlotStat, Move, SlotRead, LocoAddr, SlotData, SlotWrite, Imm, Other}
 use Rattle.dcc_packet.specs.Form.{with_check}
 use Rattle.describe.specs.declared.maker_rows.TheConstants.{MAKER_MESSAGES as maker_messages}
-use Rattle.describe.specs.declared.message_rows.TheConstants.{MESSAGES as messages}
+use Rattle.describe.specs.declared.message_rows.TheConstants.{LONG_ACKS as long_acks, MESSAGES as messages, SLOT_READS as slot_reads, SLOT_WRITES as slot_writes}
 use Rattle.describe.specs.Fields.{light_and_four}
 use Rattle.describe.specs.Packets.{direction_words, packet_words, switch_words}
 use Rattle.describe.specs.Pieces.{eight_on, four_on, functions_words, hex_pair}
-use Rattle.describe.specs.Rows.{Row, at, row_text}
+use Rattle.describe.specs.Rows.{Row, row_text, table_of}
 
 -- `slot N` and its explanation
 unfoldable pub slot_label : ℕ → List ℕ
@@ -180,18 +180,16 @@ op_words (SlotWrite f) = written_words f
 op_words (Imm count im1 im2 im3 im4 im5) = imm_words count (im1 ∷ im2 ∷ im3 ∷ im4 ∷ im5 ∷ [])
 op_words op = []
 
--- the tables of src/message_rows.rt and src/maker_rows.rt
-abbrev pub message_rows : List Row
-message_rows = map (λ row. (at row.0.now, at (map (λ said. (said.0, at said.1.now)) row.1.now))) messages
+-- the tables of src/message_rows.rt, by the opcode
+unfoldable pub standard_rows : ℕ → List Row
+standard_rows opcode =
+    if opcode == 0xB4 then table_of long_acks else
+    (if opcode == 0xE7 then table_of slot_reads else
+    (if opcode == 0xEF then table_of slot_writes else table_of messages))
 
-abbrev pub maker_rows : List Row
-maker_rows = map (λ row. (at row.0.now, at (map (λ said. (said.0, at said.1.now)) row.1.now))) maker_messages
-
-unfoldable pub standard_words : List ℕ → List ℕ
-standard_words bytes = row_text message_rows bytes
-
-unfoldable pub maker_words : List ℕ → List ℕ
-maker_words bytes = row_text maker_rows bytes
+-- the table of src/maker_rows.rt
+unfoldable pub maker_rows : List Row
+maker_rows = table_of maker_messages
 
 -- Messages that makers added to the standard: A3 and D4, functions of the Intellibox; D0, reports of
 -- Digitrax devices; E4, reports of detectors; E5 0F and ED 0F, variables of modules (LNCV).
@@ -204,9 +202,12 @@ is_of_maker opcode second =
     (if opcode == 0xE5 then second == 15 else
     (if opcode == 0xED then second == 15 else false)))))
 
+abbrev pub table_rows : (opcode second : ℕ) → List Row
+table_rows opcode second = if is_of_maker opcode second then maker_rows else standard_rows opcode
+
 -- the explanation of a whole message by a table
 abbrev pub table_words : List ℕ → List ℕ
-table_words bytes = if is_of_maker (slice_index bytes 0) (slice_index bytes 1) then maker_words bytes else standard_words bytes
+table_words bytes = row_text (table_rows (slice_index bytes 0) (slice_index bytes 1)) bytes
 
 -- the explanation of a whole message
 abbrev pub whole_words : Op → List ℕ → List ℕ

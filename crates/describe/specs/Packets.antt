@@ -1,5 +1,5 @@
 -- Explanations of DCC packets in plain words (S-9.2 and S-9.2.1).
-use Rattle.std.specs.Prelude.{ℕ, ◌+◌, ◌-◌, ◌*◌, ◌/◌, ◌%◌, ◌==◌, ◌&&◌, Bool, nat_lt, nat_le, if◌then◌else◌, List, [], ◌∷◌, ◌++◌, map, Option, Some, None, codes}
+use Rattle.std.specs.Prelude.{ℕ, ◌+◌, ◌-◌, ◌*◌, ◌/◌, ◌%◌, ◌==◌, ◌&&◌, Bool, nat_lt, nat_le, if◌then◌else◌, List, [], ◌∷◌, ◌++◌, Option, Some, None, codes}
 use Rattle.std.specs.Fmt.{decimal}
 use Rattle.dcc_packet.specs.declared.address.Address.{Address}
 use Rattle.dcc_packet.specs.declared.address.Address.TheVariants.{Short, Long}
@@ -7,10 +7,10 @@ use Rattle.dcc_packet.specs.declared.instr.Instr.{Instr}
 use Rattle.dcc_packet.specs.declared.instr.Instr.TheVariants.{Idle, Reset, StopAll, Speed, Speed128, GroupOne, GroupTwo, GroupThree, Accessory}
 use Rattle.dcc_packet.specs.Packet.{has_packet_length, is_checked}
 use Rattle.dcc_packet.specs.Reading.{instruction_of}
-use Rattle.describe.specs.declared.packet_rows.TheConstants.{INSTRUCTIONS as instructions, ACCESSORIES as accessories}
+use Rattle.describe.specs.declared.packet_rows.TheConstants.{ACCESSORIES as accessories, ADVANCED_OPERATIONS as advanced_operations, CONTROLS as controls, FEATURE_EXPANSIONS as feature_expansions, SPEEDS_AND_FUNCTIONS as speeds_and_functions, VARIABLES as variables}
 use Rattle.describe.specs.Fields.{light_and_four}
 use Rattle.describe.specs.Pieces.{functions_words}
-use Rattle.describe.specs.Rows.{Row, at, row_text}
+use Rattle.describe.specs.Rows.{Row, row_text, table_of}
 
 -- 2.1: an address of one byte, or of two
 abbrev pub address_words : Address → List ℕ
@@ -70,17 +70,22 @@ instr_words (GroupThree address bits) = group_words address (codes "F9 to F12:")
 -- 2.4.1: four switches to a decoder, which users count from 1, the first of decoder 1
 instr_words (Accessory number pair closed on) = switch_words (4 * (number - 1) + pair + 1) closed on
 
--- the tables of src/packet_rows.rt
-abbrev pub instruction_rows : List Row
-instruction_rows = map (λ row. (at row.0.now, at (map (λ said. (said.0, at said.1.now)) row.1.now))) instructions
+-- 2.3: the tables of src/packet_rows.rt, by the type of an instruction
+unfoldable pub instruction_rows : ℕ → List Row
+instruction_rows kind =
+    if kind == 0 then table_of controls else
+    (if kind == 1 then table_of advanced_operations else
+    (if kind == 6 then table_of feature_expansions else
+    (if kind == 7 then table_of variables else table_of speeds_and_functions)))
 
-abbrev pub accessory_rows : List Row
-accessory_rows = map (λ row. (at row.0.now, at (map (λ said. (said.0, at said.1.now)) row.1.now))) accessories
+unfoldable pub accessory_rows : List Row
+accessory_rows = table_of accessories
 
 -- an instruction to a locomotive that no decoder of this project obeys, by its bytes, the check
--- last: by the table
+-- last: by the table of its type, in bits 7 to 5 of the first byte
 unfoldable pub instruction_words : List ℕ → List ℕ
-instruction_words bytes = row_text instruction_rows bytes
+instruction_words (first ∷ second ∷ rest) = row_text (instruction_rows (first / 32)) (first ∷ second ∷ rest)
+instruction_words bytes = codes "unknown form"
 
 -- an instruction to accessory decoders that none of this project obeys: by the table
 unfoldable pub accessory_words : List ℕ → List ℕ

@@ -4,7 +4,7 @@ use crate::rows::Part::{Choice, Hex, Number, On, Text};
 use crate::rows::Row;
 
 /// The explanation of a whole message of a maker, by its bytes.
-pub(crate) const MAKER_MESSAGES: [Row; 14] = [
+pub(crate) static MAKER_MESSAGES: [Row; 14] = [
     // F9 to F12 of a slot, in bits 0 to 3 (Intellibox)
     (
         &[(Byte(0), 0xA3)],

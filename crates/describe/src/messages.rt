@@ -1,19 +1,20 @@
 //! Explanations of LocoNet messages.
-ghost use Rattle.std.specs.Prelude.{◌≡◌, ◌≤◌, ◌<◌, ◌+◌, ◌++◌, codes, false, length};
+ghost use Rattle.std.specs.Prelude.{◌≡◌, ◌≤◌, ◌<◌, ◌+◌, ◌++◌, IsTrue, codes, false, length};
 ghost use Rattle.arrayvec.specs.ArrayVec.{array_vec_len};
 ghost use Rattle.dcc_packet.specs.Form.{with_check};
 ghost use Rattle.dcc_packet.specs.Packet.{xor_of};
 ghost use Rattle.ln_frame.specs.Message.{are_data, is_whole};
 ghost use Rattle.ln_ops.specs.Message.{IsOfData, op_of};
 ghost use Rattle.ln_ops.specs.Slot.{is_slot};
-ghost use Rattle.describe.specs.Messages.{acknowledged_words, dirf_words, dispatch_words, fault_words, imm_words, is_of_maker, is_reported, maker_words, message_words, move_words, moved_words, op_words, read_words, sent_words, slot_label, snd_words, speed_words, standard_words, status_words, table_words, taken_words, use_words, whole_words, written_words, wrong_check_words};
+ghost use Rattle.describe.specs.Rows.{fits, rows_of};
+ghost use Rattle.describe.specs.Messages.{acknowledged_words, dirf_words, dispatch_words, fault_words, imm_words, is_of_maker, is_reported, maker_rows, message_words, move_words, moved_words, op_words, read_words, sent_words, slot_label, snd_words, speed_words, standard_rows, status_words, table_rows, table_words, taken_words, use_words, whole_words, written_words, wrong_check_words};
 
 use crate::fields::{Field, light_and_four, value_of};
 use crate::maker_rows::MAKER_MESSAGES;
-use crate::message_rows::MESSAGES;
+use crate::message_rows::{LONG_ACKS, MESSAGES, SLOT_READS, SLOT_WRITES};
 use crate::packets::{push_direction, push_packet, push_switch};
 use crate::pieces::{Words, push_byte, push_functions, push_halves, push_hex, push_text};
-use crate::rows::push_row;
+use crate::rows::{Row, push_row};
 use crate::slots::{is_forward, push_slot, push_slot_data, push_spd, push_stat};
 use arrayvec::ArrayVec;
 use ln_frame::Msg;
@@ -244,24 +245,27 @@ fn push_address(words: &mut Words, high: u8, low: u8)
     push_halves(words, "take locomotive ", high, low);
 }
 
-/// The explanation of a whole message by the table of the standard.
-#[tactic(auto, unfolding(crate::specs::Rows::fits, crate::specs::Rows::most_of, crate::specs::Rows::longest_after))]
-fn push_standard(words: &mut Words, bytes: &[u8])
-    requires size { length bytes.now ≤ 127 }
-    requires room { array_vec_len words.old ≤ 0 }
-    ensures { words.new.items ≡ words.old.items ++ standard_words bytes.now }
+/// Returns the table of the standard's messages with an opcode.
+#[tactic(auto, unfolding(crate::specs::Messages::standard_rows, crate::specs::Rows::fits, crate::specs::Rows::most_of, crate::specs::Rows::longest_after))]
+fn standard_rows(opcode: u16) -> &'static [Row]
+    ensures rows { rows_of result.now ≡ standard_rows opcode }
+    ensures fits { IsTrue (fits (standard_rows opcode)) }
 {
-    push_row(words, &MESSAGES, bytes);
+    match opcode {
+        0xB4 => &LONG_ACKS,
+        0xE7 => &SLOT_READS,
+        0xEF => &SLOT_WRITES,
+        _ => &MESSAGES,
+    }
 }
 
-/// The explanation of a whole message by the table of makers.
-#[tactic(auto, unfolding(crate::specs::Rows::fits, crate::specs::Rows::most_of, crate::specs::Rows::longest_after))]
-fn push_maker(words: &mut Words, bytes: &[u8])
-    requires size { length bytes.now ≤ 127 }
-    requires room { array_vec_len words.old ≤ 0 }
-    ensures { words.new.items ≡ words.old.items ++ maker_words bytes.now }
+/// Returns the table of the makers' messages.
+#[tactic(auto, unfolding(crate::specs::Messages::maker_rows, crate::specs::Rows::fits, crate::specs::Rows::most_of, crate::specs::Rows::longest_after))]
+fn maker_rows() -> &'static [Row]
+    ensures rows { rows_of result.now ≡ maker_rows }
+    ensures fits { IsTrue (fits maker_rows) }
 {
-    push_row(words, &MAKER_MESSAGES, bytes);
+    &MAKER_MESSAGES
 }
 
 /// Whether makers added messages with this opcode and this second byte.
@@ -275,20 +279,27 @@ fn is_of_maker(opcode: u16, second: u16) -> bool
     }
 }
 
+/// Returns the table for a whole message with this opcode and this second byte.
+fn table(opcode: u16, second: u16) -> &'static [Row]
+    ensures rows { rows_of result.now ≡ table_rows opcode second }
+    ensures fits { IsTrue (fits (table_rows opcode second)) }
+{
+    if is_of_maker(opcode, second) {
+        maker_rows()
+    } else {
+        standard_rows(opcode)
+    }
+}
+
 /// The explanation of a whole message by a table.
 fn push_by_table(words: &mut Words, bytes: &[u8])
     requires size { length bytes.now ≤ 127 }
     requires room { array_vec_len words.old ≤ 0 }
     ensures { words.new.items ≡ words.old.items ++ table_words bytes.now }
 {
-    if is_of_maker(
-        value_of(Field::Byte(0), bytes),
-        value_of(Field::Byte(1), bytes),
-    ) {
-        push_maker(words, bytes);
-    } else {
-        push_standard(words, bytes);
-    }
+    let opcode = value_of(Field::Byte(0), bytes);
+    let rows = table(opcode, value_of(Field::Byte(1), bytes));
+    push_row(words, rows, bytes);
 }
 
 /// Appends why bytes are not a whole message.

@@ -1,4 +1,7 @@
 //! Explanations of packets that no decoder of this project obeys (S-9.2.1).
+//!
+//! An instruction is explained by its bytes from the first after the address to the check, which
+//! counts as one. Bits 7 to 5 of the first byte select the table.
 use crate::fields::Field::{
     BinaryState, Bit, Byte, Decoder, Length, LightAndFour, LowFour, LowSeven, LowThree, Output,
     Step, Top, Variable,
@@ -6,11 +9,8 @@ use crate::fields::Field::{
 use crate::rows::Part::{Choice, Number, On, Text};
 use crate::rows::Row;
 
-/// What a packet tells a decoder, from the first byte after its address to the check, which counts
-/// as one.
-pub(crate) const INSTRUCTIONS: [Row; 37] = [
-    // nothing but the check
-    (&[(Length, 1)], &[(Text, "unknown form")]),
+/// What an instruction of type 000 tells a decoder: decoder and consist control.
+pub(crate) static CONTROLS: [Row; 10] = [
     // 2.3.1, decoder control: 0000CCCF
     (&[(Length, 2), (Byte(0), 0)], &[(Text, "decoder reset")]),
     (&[(Length, 2), (Byte(0), 1)], &[(Text, "hard reset")]),
@@ -33,6 +33,16 @@ pub(crate) const INSTRUCTIONS: [Row; 37] = [
             (Choice(Bit(0, 0)), ", normal direction|, reversed direction"),
         ],
     ),
+    // the rest
+    (
+        &[(Top(0, 4), 0)],
+        &[(Text, "unknown form of decoder control")],
+    ),
+    (&[], &[(Text, "unknown form of consist control")]),
+];
+
+/// What one of type 001 tells a decoder: advanced operations.
+pub(crate) static ADVANCED_OPERATIONS: [Row; 7] = [
     // 2.3.2, 128 speed steps: 00111111 DSSSSSSS
     (
         &[(Length, 3), (Byte(0), 0x3F), (LowSeven(1), 0)],
@@ -70,6 +80,11 @@ pub(crate) const INSTRUCTIONS: [Row; 37] = [
             (Number(Byte(2)), " at "),
         ],
     ),
+    (&[], &[(Text, "unknown form of advanced operation")]),
+];
+
+/// What one of types 010 to 101 tells a decoder: speed and direction, and function groups.
+pub(crate) static SPEEDS_AND_FUNCTIONS: [Row; 5] = [
     // 2.3.3, speed and direction to all: 01DCSSSS; a locomotive's own and a stop are handled
     // elsewhere
     (
@@ -92,6 +107,11 @@ pub(crate) const INSTRUCTIONS: [Row; 37] = [
         &[(Length, 2), (Top(0, 4), 10)],
         &[(On(9, LowFour(0)), "F9 to F12:")],
     ),
+    (&[], &[(Text, "unknown form")]),
+];
+
+/// What one of type 110 tells a decoder: feature expansion.
+pub(crate) static FEATURE_EXPANSIONS: [Row; 7] = [
     // 2.3.6, feature expansion: 110CCCCC
     (
         &[(Length, 3), (Byte(0), 0xDE)],
@@ -123,6 +143,11 @@ pub(crate) const INSTRUCTIONS: [Row; 37] = [
             (Choice(Bit(1, 7)), " off| on"),
         ],
     ),
+    (&[], &[(Text, "unknown form of feature expansion")]),
+];
+
+/// What one of type 111 tells a decoder: access to configuration variables.
+pub(crate) static VARIABLES: [Row; 7] = [
     // 2.3.7, configuration variables, long form: 1110CCVV VVVVVVVV DDDDDDDD
     (
         &[(Length, 4), (Top(0, 2), 57)],
@@ -163,32 +188,11 @@ pub(crate) const INSTRUCTIONS: [Row; 37] = [
         &[(Length, 3), (Byte(0), 0xF3)],
         &[(Number(Byte(1)), "write "), (Text, " to CV 24")],
     ),
-    // the rest, by the first bits
-    (
-        &[(Top(0, 4), 0)],
-        &[(Text, "unknown form of decoder control")],
-    ),
-    (
-        &[(Top(0, 4), 1)],
-        &[(Text, "unknown form of consist control")],
-    ),
-    (
-        &[(Top(0, 5), 1)],
-        &[(Text, "unknown form of advanced operation")],
-    ),
-    (
-        &[(Top(0, 5), 6)],
-        &[(Text, "unknown form of feature expansion")],
-    ),
-    (
-        &[(Top(0, 5), 7)],
-        &[(Text, "unknown form of variable access")],
-    ),
-    (&[], &[(Text, "unknown form")]),
+    (&[], &[(Text, "unknown form of variable access")]),
 ];
 
 /// What a packet tells accessory decoders, by the whole packet.
-pub(crate) const ACCESSORIES: [Row; 14] = [
+pub(crate) static ACCESSORIES: [Row; 14] = [
     // 2.1: the first byte of an accessory decoder is 10AAAAAA
     (
         &[(Bit(0, 7), 1), (Bit(0, 6), 1)],

@@ -1,13 +1,16 @@
 //! Explanations of DCC packets.
-ghost use Rattle.std.specs.Prelude.{◌≡◌, ◌≤◌, ◌+◌, ◌++◌, codes, length};
+ghost use Rattle.std.specs.Prelude.{◌≡◌, ◌≤◌, ◌+◌, ◌++◌, IsTrue, codes, length};
 ghost use Rattle.arrayvec.specs.ArrayVec.{array_vec_len};
 ghost use Rattle.describe.specs.Pieces.{Appends};
-ghost use Rattle.describe.specs.Packets.{accessory_words, address_words, both_words, direction_words, group_words, instr_words, instruction_words, packet_words, all_words, requested_words, long_words, step_28_words, step_words, switch_words, unread_words};
+ghost use Rattle.describe.specs.Rows.{fits, rows_of};
+ghost use Rattle.describe.specs.Packets.{accessory_rows, accessory_words, address_words, both_words, direction_words, group_words, instr_words, instruction_rows, instruction_words, packet_words, all_words, requested_words, long_words, step_28_words, step_words, switch_words, unread_words};
 
 use crate::fields::light_and_four;
-use crate::packet_rows::{ACCESSORIES, INSTRUCTIONS};
+use crate::packet_rows::{
+    ACCESSORIES, ADVANCED_OPERATIONS, CONTROLS, FEATURE_EXPANSIONS, SPEEDS_AND_FUNCTIONS, VARIABLES,
+};
 use crate::pieces::{Words, push_field, push_functions, push_text};
-use crate::rows::push_row;
+use crate::rows::{Row, push_row};
 use dcc_packet::{Address, Instr, Packet, read};
 
 /// `locomotive A`.
@@ -155,25 +158,52 @@ fn push_instr(words: &mut Words, instr: Instr)
     }
 }
 
+/// Returns the table of an instruction, by bits 7 to 5 of its first byte.
+#[tactic(auto, unfolding(crate::specs::Packets::instruction_rows, crate::specs::Rows::fits, crate::specs::Rows::most_of, crate::specs::Rows::longest_after))]
+fn instruction_rows(kind: u8) -> &'static [Row]
+    ensures rows { rows_of result.now ≡ instruction_rows kind }
+    ensures fits { IsTrue (fits (instruction_rows kind)) }
+{
+    match kind {
+        0 => &CONTROLS,
+        1 => &ADVANCED_OPERATIONS,
+        6 => &FEATURE_EXPANSIONS,
+        7 => &VARIABLES,
+        _ => &SPEEDS_AND_FUNCTIONS,
+    }
+}
+
+/// Returns the table of instructions to accessory decoders.
+#[tactic(auto, unfolding(crate::specs::Packets::accessory_rows, crate::specs::Rows::fits, crate::specs::Rows::most_of, crate::specs::Rows::longest_after))]
+fn accessory_rows() -> &'static [Row]
+    ensures rows { rows_of result.now ≡ accessory_rows }
+    ensures fits { IsTrue (fits accessory_rows) }
+{
+    &ACCESSORIES
+}
+
 /// An instruction to a locomotive that no decoder of this project obeys, by its bytes, the check
 /// last.
-#[tactic(auto, unfolding(crate::specs::Rows::fits, crate::specs::Rows::most_of, crate::specs::Rows::longest_after))]
+#[tactic(auto, unfolding(crate::specs::Packets::instruction_words))]
 fn push_instruction(words: &mut Words, bytes: &[u8])
     requires size { length bytes.now ≤ 6 }
     requires room { array_vec_len words.old + 250 ≤ 400 }
     ensures { Appends (instruction_words bytes.now) 250 words.old words.new }
 {
-    push_row(words, &INSTRUCTIONS, bytes);
+    match bytes {
+        [first, _, ..] => push_row(words, instruction_rows(*first / 32), bytes),
+        _ => push_text(words, "unknown form"),
+    }
 }
 
 /// An instruction to accessory decoders that none of this project obeys, by the packet.
-#[tactic(auto, unfolding(crate::specs::Rows::fits, crate::specs::Rows::most_of, crate::specs::Rows::longest_after))]
+#[tactic(auto, unfolding(crate::specs::Packets::accessory_words))]
 fn push_accessory(words: &mut Words, bytes: &[u8])
     requires size { length bytes.now ≤ 6 }
     requires room { array_vec_len words.old + 250 ≤ 400 }
     ensures { Appends (accessory_words bytes.now) 250 words.old words.new }
 {
-    push_row(words, &ACCESSORIES, bytes);
+    push_row(words, accessory_rows(), bytes);
 }
 
 /// An address and an instruction that no decoder of this project obeys, by its bytes, the check

@@ -1,7 +1,7 @@
 //! Tables of explanations: the first row that applies is used, its parts in order.
 ghost use Rattle.std.specs.Prelude.{◌≡◌, ◌≤◌, ◌<◌, ◌+◌, ◌^◌, ◌++◌, length, IsTrue};
 ghost use Rattle.arrayvec.specs.ArrayVec.{array_vec_len};
-ghost use Rattle.describe.specs.Rows.{applies, choice_text, fits, longest, most_of, part_text, parts_of, parts_text, part_most, row_text};
+ghost use Rattle.describe.specs.Rows.{applies, choice_text, fits, longest, most_of, part_text, parts_of, parts_text, part_most, phrase_of, phrases_of, row_text, rows_of};
 
 use crate::fields::{Field, value_of};
 use crate::pieces::{Words, push_field, push_hex, push_states, push_text};
@@ -46,9 +46,9 @@ fn applies(when: &[Test], bytes: &[u8]) -> bool
 #[tactic(auto, unfolding(crate::specs::Rows::parts_of, crate::specs::Rows::fits, crate::specs::Rows::most_of))]
 fn parts_of(rows: &[Row], bytes: &[u8]) -> &'static [Phrase]
     requires size { length bytes.now < 2 ^ 16 }
-    requires fits { IsTrue (fits rows.now) }
-    ensures value { result.now ≡ parts_of rows.now bytes.now }
-    ensures most { most_of result.now ≤ 250 }
+    requires fits { IsTrue (fits (rows_of rows.now)) }
+    ensures value { phrases_of result.now ≡ parts_of (rows_of rows.now) bytes.now }
+    ensures most { most_of (phrases_of result.now) ≤ 250 }
 {
     for row in rows {
         let (when, says) = *row;
@@ -80,9 +80,10 @@ fn push_choice(words: &mut Words, texts: &str, number: u16)
 /// Appends a part.
 fn push_part(words: &mut Words, said: &Phrase, bytes: &[u8])
     requires size { length bytes.now < 2 ^ 16 }
-    requires room { array_vec_len words.old + part_most said.now ≤ 400 }
-    ensures text { words.new.items ≡ words.old.items ++ part_text bytes.now said.now }
-    ensures len { array_vec_len words.new ≤ array_vec_len words.old + part_most said.now }
+    requires room { array_vec_len words.old + part_most (phrase_of said.now) ≤ 400 }
+    ensures text { words.new.items ≡ words.old.items ++ part_text bytes.now (phrase_of said.now) }
+    ensures len { array_vec_len words.new
+        ≤ array_vec_len words.old + part_most (phrase_of said.now) }
 {
     let (part, text) = *said;
     match part {
@@ -104,9 +105,11 @@ fn push_part(words: &mut Words, said: &Phrase, bytes: &[u8])
 #[tactic(auto, unfolding(crate::specs::Rows::parts_text, crate::specs::Rows::most_of))]
 fn push_parts(words: &mut Words, parts: &[Phrase], bytes: &[u8])
     requires size { length bytes.now < 2 ^ 16 }
-    requires room { array_vec_len words.old + most_of parts.now ≤ 400 }
-    ensures text { words.new.items ≡ words.old.items ++ parts_text bytes.now parts.now }
-    ensures len { array_vec_len words.new ≤ array_vec_len words.old + most_of parts.now }
+    requires room { array_vec_len words.old + most_of (phrases_of parts.now) ≤ 400 }
+    ensures text { words.new.items
+        ≡ words.old.items ++ parts_text bytes.now (phrases_of parts.now) }
+    ensures len { array_vec_len words.new
+        ≤ array_vec_len words.old + most_of (phrases_of parts.now) }
 {
     for part in parts {
         push_part(words, part, bytes);
@@ -116,9 +119,9 @@ fn push_parts(words: &mut Words, parts: &[Phrase], bytes: &[u8])
 /// Appends the explanation of the first row that applies.
 pub(crate) fn push_row(words: &mut Words, rows: &[Row], bytes: &[u8])
     requires size { length bytes.now < 2 ^ 16 }
-    requires fits { IsTrue (fits rows.now) }
+    requires fits { IsTrue (fits (rows_of rows.now)) }
     requires room { array_vec_len words.old + 250 ≤ 400 }
-    ensures text { words.new.items ≡ words.old.items ++ row_text rows.now bytes.now }
+    ensures text { words.new.items ≡ words.old.items ++ row_text (rows_of rows.now) bytes.now }
     ensures len { array_vec_len words.new ≤ array_vec_len words.old + 250 }
 {
     push_parts(words, parts_of(rows, bytes), bytes);
