@@ -32,7 +32,7 @@ pub enum DeviceRequest {
 }
 
 /// What became of a request of the devices beside the station.
-#[derive(Clone, Copy, Debug, PartialEq, Eq)]
+#[derive(Clone, Copy)]
 pub enum DeviceAnswer {
     /// The decoder, or none, stands on the programming track; or why nothing changed.
     Mount(Result<(), MountError>),
@@ -41,7 +41,7 @@ pub enum DeviceAnswer {
 }
 
 /// What can fail on request.
-#[derive(Clone, Copy, Debug, PartialEq, Eq)]
+#[derive(Clone, Copy, PartialEq, Eq)]
 pub enum Failure {
     /// Acknowledgements on the programming track: the decoder obeys, and draws no current.
     Programming,
