@@ -91,10 +91,10 @@ instruction_words bytes = codes "unknown form"
 unfoldable pub accessory_words : List ℕ → List ℕ
 accessory_words bytes = row_text accessory_rows bytes
 
-abbrev pub requested_words : Address → List ℕ → List ℕ
+unfoldable pub requested_words : Address → List ℕ → List ℕ
 requested_words address requested = address_words address ++ codes ": " ++ instruction_words requested
 
-abbrev pub all_words : List ℕ → List ℕ
+unfoldable pub all_words : List ℕ → List ℕ
 all_words requested = codes "all locomotives: " ++ instruction_words requested
 
 -- after a first byte from 192 to 231, the rest of a two-byte address

@@ -18,13 +18,13 @@ abbrev pub one_on : ℕ → Bool → List ℕ
 one_on number on = if on then codes " F" ++ decimal number else []
 
 -- those of four functions that are on, the first in bit 0
-abbrev pub four_on : ℕ → ℕ → List ℕ
+unfoldable pub four_on : ℕ → ℕ → List ℕ
 four_on first bits =
     one_on first (bits % 2 == 1) ++ one_on (first + 1) (bits / 2 % 2 == 1)
     ++ one_on (first + 2) (bits / 4 % 2 == 1) ++ one_on (first + 3) (bits / 8 % 2 == 1)
 
 -- those of eight, the first in bit 0
-abbrev pub eight_on : ℕ → ℕ → List ℕ
+unfoldable pub eight_on : ℕ → ℕ → List ℕ
 eight_on first bits = four_on first bits ++ four_on (first + 4) (bits / 16)
 
 -- those of eight that are on, or that all are off

@@ -9,10 +9,10 @@ use Rattle.service_mode.specs.declared.packet.ServicePacket.TheVariants.{Reset, 
 use Rattle.service_mode.specs.Reading.{packet_of}
 
 -- a variable has a number one above its address
-abbrev pub cv_words : (label : List ℕ) → (address : ℕ) → List ℕ
+unfoldable pub cv_words : (label : List ℕ) → (address : ℕ) → List ℕ
 cv_words label address = label ++ decimal (address + 1)
 
-abbrev pub on_words : Bool → List ℕ
+unfoldable pub on_words : Bool → List ℕ
 on_words on = if on then codes "on" else codes "off"
 
 -- direct mode

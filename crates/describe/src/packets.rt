@@ -208,6 +208,7 @@ fn push_accessory(words: &mut Words, bytes: &[u8])
 
 /// An address and an instruction that no decoder of this project obeys, by its bytes, the check
 /// last.
+#[tactic(auto, unfolding(crate::specs::Packets::requested_words))]
 fn push_requested(words: &mut Words, address: Address, requested: &[u8])
     requires size { length requested.now ≤ 6 }
     requires room { array_vec_len words.old + 300 ≤ 400 }

@@ -80,6 +80,7 @@ fn push_one_on(words: &mut Words, number: u16, on: bool)
 }
 
 /// Appends the names of those of four functions that are on, the first in bit 0.
+#[tactic(auto, unfolding(crate::specs::Pieces::four_on))]
 pub(crate) fn push_four_on(words: &mut Words, first: u16, bits: u16)
     requires room { array_vec_len words.old + 28 ≤ 400 }
     requires first { first ≤ 300 }
@@ -93,6 +94,7 @@ pub(crate) fn push_four_on(words: &mut Words, first: u16, bits: u16)
 }
 
 /// Appends the names of those of eight functions that are on, the first in bit 0.
+#[tactic(auto, unfolding(crate::specs::Pieces::eight_on))]
 pub(crate) fn push_eight_on(words: &mut Words, first: u16, bits: u16)
     requires room { array_vec_len words.old + 56 ≤ 400 }
     requires first { first ≤ 255 }

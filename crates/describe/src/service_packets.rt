@@ -9,6 +9,7 @@ use dcc_packet::Packet;
 use service_mode::{Instruction, ServicePacket, read};
 
 /// A label and the number of the variable at an address.
+#[tactic(auto, unfolding(crate::specs::ServicePackets::cv_words))]
 fn push_cv(words: &mut Words, label: &str, address: u16)
     requires address { address < 1024 }
     requires room { array_vec_len words.old + length label.now + 5 ≤ 400 }
@@ -19,6 +20,7 @@ fn push_cv(words: &mut Words, label: &str, address: u16)
 }
 
 /// `on` or `off`.
+#[tactic(auto, unfolding(crate::specs::ServicePackets::on_words))]
 fn push_on(words: &mut Words, on: bool)
     requires { array_vec_len words.old + 3 ≤ 400 }
     ensures text { words.new.items ≡ words.old.items ++ on_words on }
