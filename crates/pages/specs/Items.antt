@@ -28,12 +28,12 @@ line_at entry decoder_state = decoder_line entry.name entry.spec decoder_state
 abbrev pub node_message : Entry → DecoderState → List ℕ
 node_message entry decoder_state = codes "NODE " ++ line_at entry decoder_state
 
-abbrev pub block_message : Block → List ℕ
+unfoldable pub block_message : Block → List ℕ
 block_message block =
     codes "BLOCK " ++ block.name.bytes ++ codes " " ++ decimal block.length
     ++ point_text A block.point_a ++ point_text B block.point_b
 
-abbrev pub joint_message : List Block → Joint → List ℕ
+unfoldable pub joint_message : List Block → Joint → List ℕ
 joint_message blocks joint =
     codes "JOINT " ++ end_text blocks joint.one ++ codes " " ++ end_text blocks joint.two
 

@@ -221,6 +221,7 @@ fn message_of_train(
 }
 
 /// Returns `BLOCK NAME LENGTH`, and where its ends are drawn.
+#[tactic(auto, unfolding(crate::specs::Items::block_message))]
 fn block_message(block: &Block) -> Message
     ensures { result.bytes ≡ block_message block.now }
 {
@@ -235,6 +236,7 @@ fn block_message(block: &Block) -> Message
 }
 
 /// Returns `JOINT` and its two ends.
+#[tactic(auto, unfolding(crate::specs::Items::joint_message))]
 fn joint_message(blocks: &[Block], joint: &Joint) -> Message
     ensures { result.bytes ≡ joint_message blocks.now joint.now }
 {
