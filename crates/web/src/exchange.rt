@@ -22,7 +22,7 @@ const RESPONSE_TIMEOUT: u64 = 10_000_000;
 const DRAIN_TIMEOUT: u64 = 1_000_000;
 
 /// The stage of an HTTP exchange.
-#[derive(Clone, Copy, PartialEq, Eq)]
+#[derive(Clone, Copy)]
 pub enum Stage {
     /// Reading the request head: bytes read are passed to [`HttpExchange::receive`].
     ReadingRequest,

@@ -3,7 +3,7 @@ ghost use Rattle.std.specs.Prelude.{IsTrue};
 ghost use Rattle.websocket.specs.Headers.{is_graphic_text};
 
 /// The response to a request.
-#[derive(Clone, Copy, PartialEq, Eq)]
+#[derive(Clone, Copy)]
 pub enum Response {
     /// None yet: the head is incomplete and may become a request.
     Incomplete,
@@ -20,7 +20,7 @@ pub enum Response {
 }
 
 /// A valid WebSocket handshake.
-#[derive(Clone, Copy, PartialEq, Eq)]
+#[derive(Clone, Copy)]
 pub struct UpgradeRequest {
     /// The value of `Sec-WebSocket-Accept`.
     pub(crate) accept_key: [u8; 28],
@@ -31,7 +31,7 @@ pub struct UpgradeRequest {
 }
 
 /// Why a request is rejected.
-#[derive(Clone, Copy, Debug, PartialEq, Eq)]
+#[derive(Clone, Copy)]
 pub enum HttpError {
     /// 400: not a valid request, or not a valid handshake.
     BadRequest,
