@@ -40,7 +40,7 @@ pub struct HttpConnection<S> {
 }
 
 /// The progress of an HTTP exchange.
-#[derive(Clone, Copy, Debug, PartialEq, Eq)]
+#[derive(Clone, Copy)]
 pub enum Progress {
     /// Nothing can be read or written now.
     Blocked,

@@ -10,7 +10,7 @@ const PING_AFTER: u64 = 20_000_000;
 const LOST_AFTER: u64 = 40_000_000;
 
 /// What is to be done for a page.
-#[derive(Clone, Copy, Debug, PartialEq, Eq)]
+#[derive(Clone, Copy)]
 pub(crate) enum Action {
     /// Nothing yet.
     Nothing,
@@ -21,7 +21,7 @@ pub(crate) enum Action {
 }
 
 /// When a page was last heard, in microseconds since the start, and whether it was pinged since.
-#[derive(Clone, Copy, Debug, PartialEq, Eq)]
+#[derive(Clone, Copy)]
 pub(crate) struct Silence {
     heard: u64,
     is_pinged: bool,
