@@ -65,11 +65,20 @@ impl CallLog {
         ensures events { self.new.events ≡ self.old.events }
         ensures readings { self.new.readings ≡ self.old.readings }
     {
-        *self = self.with(&Returned::Failed, &[]);
+        self.add(&Returned::Failed, &[]);
     }
 
-    /// Returns the log with what one more call returned, with the bytes that were read or given.
-    pub(crate) fn with(&self, _returned: &Returned, _bytes: &[u8]) -> CallLog
+    /// Adds what one more call returned, with the bytes that were read or given.
+    pub(crate) fn add(&mut self, returned: &Returned, bytes: &[u8])
+        ensures events { self.new.events ≡ self.old.events ++ events_of returned.now bytes.now }
+        ensures readings { self.new.readings ≡ self.old.readings ++ readings_of returned.now }
+        ensures failed { self.new.failed ≡ failed_after returned.now self.old.failed }
+    {
+        *self = self.with(returned, bytes);
+    }
+
+    /// Returns the log with what one more call returned.
+    fn with(&self, _returned: &Returned, _bytes: &[u8]) -> CallLog
         ensures { (result.events ≡ self.now.events ++ events_of _returned.now _bytes.now)
             × (result.readings ≡ self.now.readings ++ readings_of _returned.now)
             × (result.failed ≡ failed_after _returned.now self.now.failed) }

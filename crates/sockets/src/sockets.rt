@@ -162,7 +162,7 @@ impl<C: Clock> Transport for Sockets<'_, C> {
     /// Also serves the HTTP connections, and pings the pages that are silent. Fails if the clock
     /// cannot be read, or the system cannot wait.
     fn wait(&mut self, longest: Option<u32>) -> Result<(), SystemFault> {
-        self.log = self.log.with(&Returned::Wait { longest }, &[]);
+        self.log.add(&Returned::Wait { longest }, &[]);
         match self.wait_and_serve(longest) {
             Ok(()) => Ok(()),
             Err(error) => Err(SystemFault::of(error)),
@@ -171,30 +171,30 @@ impl<C: Clock> Transport for Sockets<'_, C> {
 
     fn accept(&mut self, client: u8) -> bool {
         let is_there = self.connections.accept(client);
-        self.log = self.log.with(&Returned::Accept { client, is_there }, &[]);
+        self.log.add(&Returned::Accept { client, is_there }, &[]);
         is_there
     }
 
     fn reject(&mut self) -> bool {
         let is_there = self.connections.reject();
-        self.log = self.log.with(&Returned::Reject { is_there }, &[]);
+        self.log.add(&Returned::Reject { is_there }, &[]);
         is_there
     }
 
     fn read(&mut self, client: u8, room: &mut [u8]) -> IoOutcome {
         let outcome = self.connections.read(client, room);
-        self.log = self.log.with(&Returned::Read { client, outcome }, room);
+        self.log.add(&Returned::Read { client, outcome }, room);
         outcome
     }
 
     fn write(&mut self, client: u8, bytes: &[u8]) -> IoOutcome {
         let outcome = self.connections.write(client, bytes);
-        self.log = self.log.with(&Returned::Write { client, outcome }, bytes);
+        self.log.add(&Returned::Write { client, outcome }, bytes);
         outcome
     }
 
     fn close(&mut self, client: u8) {
         self.connections.close(client);
-        self.log = self.log.with(&Returned::Close { client }, &[]);
+        self.log.add(&Returned::Close { client }, &[]);
     }
 }

@@ -56,7 +56,7 @@ impl<C: Clock> TimeSource for Ticking<'_, C> {
     fn elapsed(&mut self) -> Result<u64, SystemFault> {
         match self.watch.elapsed(self.clock) {
             Ok(micros) => {
-                self.log = self.log.with(&Returned::Elapsed { micros }, &[]);
+                self.log.add(&Returned::Elapsed { micros }, &[]);
                 Ok(micros)
             }
             Err(error) => Err(SystemFault::of(error)),
