@@ -89,15 +89,20 @@ impl<'a, C: Net + AllocGlobal + Clock> Sockets<'a, C> {
 fn listen<C: Net + AllocGlobal + Clock>(rt: &C, address: SocketAddr) -> io::Result<Sockets<'_, C>>
     ensures { IfOk result (λ sockets. sockets.log.events ≡ []) }
 {
-    let poll = Poll::new(rt)?;
-    let listener = TcpListener::bind(rt, address)?;
     let watch = Stopwatch::new(rt)?;
     Ok(Sockets {
-        connections: Connections::new(rt.alloc(), poll, listener)?,
+        connections: connections(rt, address)?,
         clock: rt,
         watch,
         log: CallLog::new(),
     })
+}
+
+/// Creates the connections of programs on an address and a port.
+fn connections<C: Net + AllocGlobal>(rt: &C, address: SocketAddr) -> io::Result<Connections> {
+    let listener = TcpListener::bind(rt, address)?;
+    let poll = Poll::new(rt)?;
+    Connections::new(rt.alloc(), poll, listener)
 }
 
 impl<C: Clock> Sockets<'_, C> {
