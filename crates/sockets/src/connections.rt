@@ -154,7 +154,7 @@ impl Connections {
         requires { client < 8 }
         ensures { result ≡ Closed }
     {
-        self.clients[usize::from(client)] = None;
+        self.close(client);
         IoOutcome::Closed
     }
 
