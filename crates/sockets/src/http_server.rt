@@ -166,10 +166,15 @@ fn advance(
 /// Turns an upgraded exchange into a page that waits for a client index. Closes it if out of
 /// memory.
 fn join(slot: &mut HttpSlot, alloc: Global) {
-    let HttpSlot::Asked(connection) = mem::replace(slot, HttpSlot::Free) else {
-        return;
-    };
-    if let Ok(page) = connection.into_page(alloc) {
-        *slot = HttpSlot::UpgradeRequest(page);
+    if let HttpSlot::Asked(connection) = mem::replace(slot, HttpSlot::Free) {
+        *slot = upgraded(connection, alloc);
+    }
+}
+
+/// Returns the slot of an upgraded exchange, with its page; a free one if out of memory.
+fn upgraded(connection: HttpConnection<TcpStream>, alloc: Global) -> HttpSlot {
+    match connection.into_page(alloc) {
+        Ok(page) => HttpSlot::UpgradeRequest(page),
+        Err(_) => HttpSlot::Free,
     }
 }
