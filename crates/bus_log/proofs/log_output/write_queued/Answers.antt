@@ -16,6 +16,11 @@ returns-in_err-count-clause-written g c =
     writes_nothing old mid before held (written c.write_ready.new.self) c.in_err-count.ensures.bytes
     (writes_reported old c.loop-write.log mid before held c.report_left_out.ensures.kept c.report_left_out.ensures.reported c.loop-write.invariant.written)
 
+pub returns-then-not-has_queued-clause-written : goal.returns-then-not-has_queued-clause-written
+returns-then-not-has_queued-clause-written g c =
+    let written = g.T.LogOutput.written in
+    writes_reported c.args.log.now c.loop-write.log c.report_left_out.new.self (written c.args.output.now) (written c.loop-write.output) c.report_left_out.ensures.kept c.report_left_out.ensures.reported c.loop-write.invariant.written
+
 pub returns-then-count-eq0-clause-written : goal.returns-then-count-eq0-clause-written
 returns-then-count-eq0-clause-written g c =
     let written = g.T.LogOutput.written in
