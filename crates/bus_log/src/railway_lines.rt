@@ -1,5 +1,5 @@
 //! The lines of the blocks and the trains of a railway.
-ghost use Rattle.std.specs.Prelude.{◌≡◌, ◌≤◌, ◌<◌, ◌+◌, ◌-◌, ◌∷◌, [], length, option_copied, slice_get, true};
+ghost use Rattle.std.specs.Prelude.{◌≡◌, ◌≤◌, ◌<◌, ◌+◌, ◌-◌, ◌∷◌, [], Some, length, option_copied, slice_get, true};
 ghost use Rattle.railway.specs.Blocks.{block_name};
 ghost use Rattle.railway.specs.Conflicts.{first_in};
 ghost use Rattle.roster.specs.Decoders.{entries_of};
@@ -91,11 +91,16 @@ fn stays(before: &[TrainState], after: &[TrainState], i: usize) -> bool
 {
     match (before.get(i), after.get(i)) {
         (None, None) => true,
-        (Some(before), Some(after)) => {
-            before.is_in_blocks_of(after) && before.is_derailed() == after.is_derailed()
-        }
+        (Some(before), Some(after)) => train_stays(before, after),
         _ => false,
     }
+}
+
+/// Whether a train is in the same blocks as before, and is derailed if it was.
+fn train_stays(before: &TrainState, after: &TrainState) -> bool
+    ensures { result ≡ stays (Some before.now) (Some after.now) }
+{
+    before.is_in_blocks_of(after) && before.is_derailed() == after.is_derailed()
 }
 
 /// Prints each block that became occupied or free.
