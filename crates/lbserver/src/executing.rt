@@ -261,8 +261,8 @@ fn with_sockets<O: Write>(
     served
 }
 
-/// Serves, with the page, if the order has one, and a queue for the lines of the log. At the end the
-/// rest of them is written.
+/// Serves, with the page, if the order has one, and a queue for the lines of the log, of which the first
+/// reports the addresses. At the end the rest of them is written.
 fn with_log<O: Write>(
     rt: &HostRuntime,
     order: &mut ServerOrder,
@@ -284,8 +284,10 @@ fn with_log<O: Write>(
         × (sockets.new.log.events ≡ []) × (logs.new.clock.readings ≡ [])) }
 {
     open_page(rt, order, sockets, logs)?;
+    let (bus, page) = addresses(rt, sockets, logs)?;
     let mut log = LogQueue::new(rt.alloc())?;
-    report_addresses(rt, sockets, &mut log, logs)?;
+    // The queue takes all bytes.
+    let _ = print_listening(&mut log, bus, page);
     // The output notes a failed write; the lines stay queued.
     let _ = write_queued(&mut log, output, Duration::ZERO);
     let verbosity = Verbosity::of(order.track, order.quiet, order.times);
@@ -348,15 +350,15 @@ fn read_page(rt: &HostRuntime, file: Option<FileName>) -> Result<Vec<u8>, Server
     read_file(rt, file, LONGEST_PAGE)
 }
 
-/// Reports the bound addresses and ports: of the page, one that other machines reach.
-fn report_addresses(
+/// Returns the bound addresses and ports: of the page, if there is one, one that other machines reach.
+fn addresses(
     rt: &HostRuntime,
     sockets: &Sockets<'_, HostRuntime>,
-    log: &mut LogQueue,
     logs: &mut DeviceLogs,
-) -> Result<(), ServerFault>
+) -> Result<(SocketAddr, Option<SocketAddr>), ServerFault>
     ensures end { IsEnd false false logs.new.faults.failed result }
     ensures status { IfErr result (λ fault. status_of fault ≡ 4) }
+    ensures calls { logs.new.clock ≡ logs.old.clock }
 {
     let (bus, page) = match sockets.addresses() {
         Ok(addresses) => addresses,
@@ -366,9 +368,7 @@ fn report_addresses(
         Some(page) => Some(reachable(rt, page)),
         None => None,
     };
-    // The queue takes all bytes.
-    let _ = print_listening(log, bus, page);
-    Ok(())
+    Ok((bus, page))
 }
 
 /// Serves an order until the given number of clients have disconnected; without a number for ever,
