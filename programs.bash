@@ -12,11 +12,11 @@ read_crates() {
     done < <(grep '^[a-z]' crates.txt)
 }
 
-# Adds a crate, and those that it depends on, to the crates wanted: none that only the tests of a program use.
+# Adds a crate, and those that it depends on, to the crates wanted: none that only the tests of a program or of a library for C use.
 want() {
     [[ -n ${libraries[$1]+x} && -z ${wanted[$1]+x} ]] || return 0
     wanted[$1]=crates/$1
-    [[ ! -f crates/$1/src/main.rt ]] || libraries[$1]=$(grep -rowhFf <(printf '%s\n' ${libraries[$1]}) "crates/$1" \
+    [[ ! -f crates/$1/src/main.rt && -z ${archives[$1]-} ]] || libraries[$1]=$(grep -rowhFf <(printf '%s\n' ${libraries[$1]}) "crates/$1" \
         --exclude-dir={tests,must-fail,audit,out} --exclude=tests.rt | sort -u) || :
     for library in ${libraries[$1]}; do want "$library"; done
 }
@@ -60,6 +60,22 @@ is_made() {
 
 # Writes the first digits of the checksum of its sources into a program, where --version shows them.
 stamp() { LC_ALL=C sed -i "s/(sources 0\{12\})/(sources ${2:0:12})/g" "$1"; }
+
+# Builds a library for C in the folder of its sources, over the libraries as rt ci leaves them in a folder of crates: none of these is
+# proved once more.
+build_archive() { # NAME, both folders
+    local kit library folder words=()
+    kit=$(dirname "$(rt doc)")
+    wanted=() && want "$1" && unset "wanted[$1]"
+    for library in std ${libraries[$1]}; do
+        [[ -n ${wanted[$library]-} ]] && folder=$3/$library/out/rlib || folder=$kit/rlibs
+        words+=(--extern "$library=$folder/$library.rlib")
+    done
+    for library in "${!wanted[@]}"; do words+=(-L "dependency=$3/$library/out/rlib"); done
+    cd "$2" && mkdir -p out && exec "$kit/bin/rattle" build --crate-name "$1" src/lib.rt "${words[@]}" -L "dependency=$kit/rlibs" \
+        --links "$1=" --crate-type staticlib --antt-project "$kit/rattle/logic/antt-project.json" --logic-built "$kit/logic_built" \
+        --toolchain "$kit/toolchain" -o "out/lib$1.a"
+}
 
 # Links the library for C from its archive, by the linker of the toolchain alone.
 link_shared() {
