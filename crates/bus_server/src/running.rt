@@ -21,7 +21,7 @@ use crate::transport::Transport;
 const LONGEST_STEP: u64 = 1_000_000;
 
 /// Why a run stopped. Each fault was made by a device, so that device has failed.
-#[derive(Clone, Copy, Debug, PartialEq, Eq, Drop)]
+#[derive(Drop)]
 pub enum Stop<T, C, O, A> {
     /// The transport cannot wait.
     Transport(T),

@@ -4,7 +4,7 @@ ghost use Rattle.bus.specs.Log.{Extends};
 ghost use Rattle.bus_server.specs.TransportEvents.{IsWithin, Polled, ServerClosed, TransportEvent, accept_events, read_events, reject_events, write_events};
 
 /// The outcome of a read or a write.
-#[derive(Clone, Copy, Debug, PartialEq, Eq)]
+#[derive(Clone, Copy)]
 pub enum IoOutcome {
     /// That many bytes were read or written, at least one.
     Bytes(usize),
