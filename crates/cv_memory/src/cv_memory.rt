@@ -33,7 +33,7 @@ const RESET: u8 = 8;
 ///
 /// CV7 and CV8 are read only (S-9.2.2). A write of 8 to CV8 gives all variables the values of the
 /// decoder's file, as in decoders in use.
-#[derive(Clone, Debug, Drop)]
+#[derive(Clone, Drop)]
 pub struct CvMemory {
     values: [u8; CV_COUNT],
     filed: [u8; CV_COUNT],

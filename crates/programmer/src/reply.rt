@@ -7,7 +7,7 @@ use crate::task_result::TaskResult;
 use ln_frame::Msg;
 
 /// The reply to a message for slot 124.
-#[derive(Clone, Copy, Debug, PartialEq, Eq)]
+#[derive(Clone, Copy, PartialEq, Eq)]
 pub enum TaskReply {
     /// The task begins, and its result follows.
     Accepted,

@@ -3,7 +3,7 @@ ghost use Rattle.std.specs.Prelude.{◌≡◌};
 ghost use Rattle.programmer.specs.Requests.{is_bit, is_byte, is_write};
 
 /// A task, as its message has it (LocoNet Personal Use Edition 1.0, programmer task start).
-#[derive(Clone, Copy, Debug, PartialEq, Eq)]
+#[derive(Clone, Copy, PartialEq, Eq)]
 pub struct Task {
     /// PCMD, below 128: read or write, and the mode.
     pub command: u8,

@@ -39,7 +39,7 @@ impl Status {
 }
 
 /// A task with its status and the value of the variable.
-#[derive(Clone, Copy, Debug, PartialEq, Eq)]
+#[derive(Clone, Copy, PartialEq, Eq)]
 pub struct TaskResult {
     pub task: Task,
     pub status: Status,

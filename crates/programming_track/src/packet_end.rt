@@ -10,7 +10,7 @@ pub const MAX_ENDS: usize = 3;
 
 /// A packet that has been sent on the programming track, the result of the task if it was its last, and
 /// what it changed of the decoder's variables.
-#[derive(Clone, Copy, Debug, Default, PartialEq, Eq)]
+#[derive(Clone, Copy, Default, PartialEq, Eq)]
 pub struct PacketEnd {
     pub packet: ServicePacket,
     pub result: Option<TaskResult>,

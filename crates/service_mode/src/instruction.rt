@@ -4,7 +4,7 @@ ghost use Rattle.service_mode.specs.Spelling.{body_of, is_legal, is_same};
 
 /// An instruction of direct mode (S-9.2.3). The address of a variable is one less than its number: 0 to
 /// 1023 for CV1 to CV1024.
-#[derive(Clone, Copy, Debug, PartialEq, Eq)]
+#[derive(Clone, Copy, PartialEq, Eq)]
 pub enum Instruction {
     /// The decoder acknowledges if the variable has this value.
     VerifyByte { address: u16, value: u8 },

@@ -6,7 +6,7 @@ use crate::instruction::Instruction;
 use dcc_packet::Packet;
 
 /// A packet of the programming track (S-9.2.3).
-#[derive(Clone, Copy, Debug, Default, PartialEq, Eq)]
+#[derive(Clone, Copy, Default, PartialEq, Eq)]
 pub enum ServicePacket {
     /// The packet that resets all decoders (S-9.2, baseline packets), and begins service mode.
     #[default]

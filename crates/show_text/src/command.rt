@@ -5,7 +5,7 @@ ghost use Rattle.show_text.specs.declared.command.ScriptFaultKind.TheVariants.{N
 use std::alloc::AllocFailed;
 
 /// A command of a script.
-#[derive(Clone, Copy, Debug, PartialEq, Eq)]
+#[derive(Clone, Copy, PartialEq, Eq)]
 pub enum Command {
     /// A byte is received on a line.
     Byte { line: u8, byte: u8 },
