@@ -173,51 +173,41 @@ pub(crate) fn text_fault(roster: &Roster, fault: PlanFault) -> PlanTextFault
     }
 }
 
-/// Returns between which numbers that at a key must be; none at a key of another value.
-fn bounds_of(key: Key) -> Option<Bounds> {
-    match key {
-        Key::Length => Some(LENGTH),
-        Key::Sensor => Some(SENSOR),
-        Key::Switch => Some(SWITCH),
-        Key::Front => Some(FRONT),
-        Key::Speed => Some(SPEED),
-        Key::Time => Some(TIME),
-        Key::Acceleration | Key::Braking => Some(RATE),
-        _ => None,
-    }
+/// What the value at a key must be.
+enum Demand {
+    /// A number from the least to the most.
+    Number(Bounds),
+    /// What the words say.
+    Words(&'static str),
 }
 
-/// Returns what the value at a key without bounds must be.
-fn demand_of(key: Key) -> &'static str {
+/// Returns what the value at a key must be.
+fn demand_of(key: Key) -> Demand {
     match key {
-        Key::Version => "1",
-        Key::Block | Key::Joint | Key::Turnout | Key::Train => "an array of tables",
-        Key::Name => "1 to 32 ASCII letters, digits, - or _",
-        Key::Decoder => "a name of the roster",
-        Key::Feedback => "true or false",
-        Key::A | Key::B => "two numbers from -10000 to 10000",
-        Key::Ends => "two ends of blocks",
-        Key::Common | Key::Closed | Key::Thrown => "an end of a block",
-        Key::Facing => "a or b",
-        Key::Length
-        | Key::Sensor
-        | Key::Switch
-        | Key::Front
-        | Key::Speed
-        | Key::Time
-        | Key::Acceleration
-        | Key::Braking => "",
+        Key::Version => Demand::Words("1"),
+        Key::Block | Key::Joint | Key::Turnout | Key::Train => Demand::Words("an array of tables"),
+        Key::Name => Demand::Words("1 to 32 ASCII letters, digits, - or _"),
+        Key::Decoder => Demand::Words("a name of the roster"),
+        Key::Length => Demand::Number(LENGTH),
+        Key::Sensor => Demand::Number(SENSOR),
+        Key::Switch => Demand::Number(SWITCH),
+        Key::Front => Demand::Number(FRONT),
+        Key::Speed => Demand::Number(SPEED),
+        Key::Time => Demand::Number(TIME),
+        Key::Acceleration | Key::Braking => Demand::Number(RATE),
+        Key::Feedback => Demand::Words("true or false"),
+        Key::A | Key::B => Demand::Words("two numbers from -10000 to 10000"),
+        Key::Ends => Demand::Words("two ends of blocks"),
+        Key::Common | Key::Closed | Key::Thrown => Demand::Words("an end of a block"),
+        Key::Facing => Demand::Words("a or b"),
     }
 }
 
 /// Writes what the value at a key must be.
 fn write_demand<W: fmt::Write>(key: Key, f: &mut fmt::Formatter<W>) -> fmt::Result {
-    match bounds_of(key) {
-        Some(bounds) => write_bounds(key, bounds, f),
-        None => {
-            let demand = demand_of(key);
-            write!(f, "{key} must be {demand}")
-        }
+    match demand_of(key) {
+        Demand::Number(bounds) => write_bounds(key, bounds, f),
+        Demand::Words(words) => write!(f, "{key} must be {words}"),
     }
 }
 
