@@ -189,7 +189,8 @@ def nodes_are_left():
             between = log[log.index("client 2 leaves") : len(log) - log[::-1].index("client 2 joins")]
             within("messages from one to the other", 0, between.count(f"message {POWER_ON}  track power on"), 33 * 50)
 
-    is_tried_again(leave)
+    # The next one often comes too late for the messages of the other, and more often on a fast or a busy machine.
+    is_tried_again(leave, most=30)
 
 
 def all_hear_the_same():

@@ -57,9 +57,9 @@ def holds(what, is_so):
         raise Failed(what)
 
 
-def is_tried_again(attempt):
-    """Tries a check of times until it holds, at most three times."""
-    for left in (2, 1, 0):
+def is_tried_again(attempt, most=3):
+    """Tries a check of times until it holds, at most so many times."""
+    for left in reversed(range(most)):
         try:
             return attempt()
         except Failed:
